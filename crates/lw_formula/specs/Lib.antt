@@ -1,0 +1,13 @@
+pub mod Name
+pub mod Logic
+pub mod Signs
+pub mod Formula
+pub mod Variables
+pub mod Codes
+pub mod Tree
+pub mod FiniteModel
+pub mod Class
+pub mod Truth
+pub mod Validity
+pub mod Signed
+pub mod Components
