@@ -1,3 +1,5 @@
 pub mod Lists
 pub mod Truths
 pub mod Sameness
+pub mod Members
+pub mod Subformulas
