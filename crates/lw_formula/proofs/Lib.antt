@@ -3,3 +3,5 @@ pub mod Truths
 pub mod Sameness
 pub mod Members
 pub mod Subformulas
+pub mod Revaluation
+pub mod OneWorld

@@ -11,3 +11,4 @@ pub mod Truth
 pub mod Validity
 pub mod Signed
 pub mod Components
+pub mod Laws

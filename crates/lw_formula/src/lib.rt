@@ -4,6 +4,7 @@
 
 mod chars;
 mod form;
+mod laws;
 mod logic;
 mod name;
 mod parts;
@@ -11,6 +12,9 @@ mod sign;
 
 pub use chars::Chars;
 pub use form::Form;
+pub use laws::{
+    no_logic_is_empty, substitution_keeps_validity, truth_depends_on_variables, truths_agree,
+};
 pub use logic::Logic;
 pub use name::{Name, NameFault};
 pub use parts::Parts;

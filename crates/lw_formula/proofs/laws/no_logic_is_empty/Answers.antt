@@ -1,0 +1,5 @@
+use Rattle.lw_formula.proofs.OneWorld.{falsum_not_Valid}
+use Rattle.lw_formula.proofs.laws.no_logic_is_empty.Goals as goal
+
+pub returns : goal.returns
+returns c = falsum_not_Valid
