@@ -1,0 +1,36 @@
+-- What the program's top call promises of its output: the words of its clauses.
+-- A store or a sink that doesn't tell its bytes meets `IsHeld`, `Adds` and `AddsPart` with any bytes; where both tell, these
+-- fix the file's bytes and the output.
+use Rattle.std.specs.Prelude.{◌≡◌, ℕ, Bool, List, Option, Some}
+use Rattle.lw_io.specs.Files.{Files, IsHeld, IsSure}
+use Rattle.lw_io.specs.Written.{Adds, AddsPart}
+use Rattle.lw_cli.specs.declared.asked.Command.{Command}
+use Rattle.lw_cli.specs.Asked.{command_of, file_of}
+use Rattle.lw_cli.specs.Outcome.{Outcome}
+
+-- the command allows this output and this status over the file that the store holds
+pub record IsOutput (command : Command) (holds : Option Files) (out : List ℕ) (status : ℕ) : Type 0 where
+  pub bytes : List ℕ
+  pub held : IsHeld holds (file_of command) bytes
+  pub outcome : Outcome command bytes out status
+
+-- the words are a command, and P holds of it
+abbrev pub AsksFor : List (List ℕ) → (Command → Type 0) → Type 0
+AsksFor words P = (command : Command) × (command_of words ≡ Some command) × P command
+
+-- what was written between the two moments is the whole of an output that the command allows with this status
+pub record Answers (command : Command) (holds : Option Files) (before now : Option (List ℕ)) (status : ℕ) : Type 0 where
+  pub out : List ℕ
+  pub output : IsOutput command holds out status
+  pub written : Adds before now out
+
+-- what was written between the two moments is a first part of an output that the command allows
+pub record AnswersPart (command : Command) (holds : Option Files) (before now : Option (List ℕ)) : Type 0 where
+  pub out : List ℕ
+  pub status : ℕ
+  pub output : IsOutput command holds out status
+  pub written : AddsPart before now out
+
+-- the store isn't sure of the command's file
+abbrev pub IsUnsureOf : Bool → Option Files → Command → Type 0
+IsUnsureOf sure holds command = ¬ IsSure sure holds (file_of command)

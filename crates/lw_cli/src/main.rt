@@ -1,0 +1,45 @@
+//! The workbench's program: `prove k FILE` reads a formula and writes whether it is valid in K.
+#![tactic(auto)]
+
+mod answer;
+mod asked;
+mod prove;
+#[cfg(test)]
+mod tests;
+mod words;
+mod workbench;
+
+pub use answer::Answer;
+pub use asked::{Command, FileName};
+use lw_io::{DiskStore, StdSink};
+use std::env;
+use std::io::ErrorKind;
+use std::process::ExitCode;
+pub use words::command;
+pub use workbench::workbench;
+
+/// The status where the words are no command.
+const NO_COMMAND: u8 = 2;
+
+/// The status where memory is wanting.
+const NO_MEMORY: u8 = 5;
+
+fn status(rt: HostRuntime) -> u8 {
+    let alloc = rt.alloc();
+    let mut args = match env::args(&rt) {
+        Ok(args) => args,
+        Err(error) if error.kind() == ErrorKind::OutOfMemory => return NO_MEMORY,
+        Err(_) => return NO_COMMAND,
+    };
+    let _ = args.next();
+    let Ok(words) = args.collect::<Vec<String>>(alloc) else {
+        return NO_MEMORY;
+    };
+    let mut store = DiskStore::new(rt);
+    let mut sink = StdSink::new(rt);
+    workbench(alloc, words.as_slice(), &mut store, &mut sink)
+}
+
+fn main(rt: HostRuntime) -> ExitCode {
+    ExitCode::from(status(rt))
+}
