@@ -1,4 +1,4 @@
-ghost use Rattle.std.specs.Prelude.{◌≡◌, ◌≤◌, length, IfOk};
+ghost use Rattle.std.specs.Prelude.{◌≡◌, ◌≤◌, length, take, IfOk, IfSome};
 
 use super::count::count_one;
 use super::store::{FetchFault, Store};
@@ -56,9 +56,11 @@ fn read_file<R: Files>(
     read_bytes(&mut file, alloc, limit)
 }
 
-// Reads until there are so many bytes, or to the end.
+// Reads until there are so many bytes, or to the end. Where a reader tells the bytes that it has,
+// these are the first of them.
 fn read_bytes<F: Read>(file: &mut F, alloc: Global, limit: usize) -> Result<Vec<u8>, FetchFault>
-    ensures { IfOk result (λ bytes. length bytes.items ≤ limit) }
+    ensures size { IfOk result (λ bytes. length bytes.items ≤ limit) }
+    ensures bytes { IfOk result (λ bytes. IfSome (F.remaining file.old) (λ rest. bytes.items ≡ take limit rest)) }
 {
     let mut bytes = Vec::new(alloc);
     let mut chunk = [0; 4096];
@@ -75,4 +77,27 @@ fn read_bytes<F: Read>(file: &mut F, alloc: Global, limit: usize) -> Result<Vec<
             .map_err(|_| FetchFault::Memory)?;
     }
     Ok(bytes)
+}
+
+#[cfg(test)]
+mod tests {
+    use super::*;
+    use std::test::Fail;
+
+    #[test]
+    fn reads_a_file_and_counts_one_that_is_not_there(rt: HostRuntime) -> Result<(), Fail> {
+        let path = "lw_io_disk_store_test";
+        fs::write(&rt, path, b"first line".as_slice())?;
+        let mut store = DiskStore::new(rt);
+        let part = store.fetch(rt.alloc(), path, 4);
+        let whole = store.fetch(rt.alloc(), path, 100);
+        fs::remove_file(&rt, path)?;
+        assert_eq!(rt; part?.as_slice(), b"first".as_slice());
+        assert_eq!(rt; whole?.as_slice(), b"first line".as_slice());
+        assert_eq!(rt; store.faults, 0);
+        let missing = store.fetch(rt.alloc(), path, 100);
+        assert_eq!(rt; missing.err(), Some(FetchFault::Failed));
+        assert_eq!(rt; store.faults, 1);
+        Ok(())
+    }
 }

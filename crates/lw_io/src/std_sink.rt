@@ -49,3 +49,15 @@ fn write_whole<R: Print>(rt: &R, piece: &[u8]) -> Result<(), Failed> {
     }
     Ok(())
 }
+
+#[cfg(test)]
+mod tests {
+    use super::*;
+
+    #[test]
+    fn writes_a_piece_without_a_fault(rt: HostRuntime) {
+        let mut sink = StdSink::new(rt);
+        assert_eq!(rt; sink.write(b"a line\n".as_slice()), Ok(()));
+        assert_eq!(rt; sink.faults, 0);
+    }
+}
