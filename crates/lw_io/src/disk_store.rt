@@ -9,7 +9,8 @@ use std::rt::Files;
 
 /// The files of the runtime's file system, each under its path.
 ///
-/// It tells no files, so no contract says what it fetches.
+/// A fetch answers `Failed` at every error of the system, as where there is no such file, and
+/// counts it. The store tells no files, so no contract says what a fetch gives.
 #[derive(Drop)]
 pub struct DiskStore<R: Files + Drop> {
     rt: R,

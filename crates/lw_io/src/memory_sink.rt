@@ -1,4 +1,4 @@
-ghost use Rattle.std.specs.Prelude.{◌≡◌, ◌+◌, ◌≤◌, ◌↔◌, ◌++◌, Some, length, IsTrue, IfOk, OnOk, OnErr, IsErr, vec_capacity};
+ghost use Rattle.std.specs.Prelude.{◌≡◌, ◌+◌, ◌≤◌, ◌↔◌, ◌++◌, length, vec_capacity, IsTrue, IsErr, IfOk, OnOk, OnErr};
 ghost use Rattle.std.specs.FinMap as finite;
 ghost use Rattle.lw_io.specs.Causes.{Rose};
 ghost use Rattle.lw_io.specs.Written.{Adds, AddsPart};
@@ -11,6 +11,9 @@ use std::alloc::{AllocError, Global};
 use std::marker::Model;
 
 /// Output in memory with room for so many bytes, of which chosen writes fail.
+///
+/// A write takes no memory. It fails exactly where its number is listed or the piece doesn't fit
+/// the rest of the room. Where it isn't listed and doesn't fit, it keeps what fits.
 #[derive(Drop)]
 pub struct MemorySink {
     bytes: Vec<u8>,
@@ -52,7 +55,8 @@ impl MemorySink {
 
     /// Lists the write of that number, counted from 1, among those that fail. It keeps the longest
     /// first part of its piece that has at most `keep` bytes and fits. Where a number is listed
-    /// twice the last listing counts. After an error the sink is as before.
+    /// twice the last listing counts. The numbers stand still at `u64::MAX` once they have reached
+    /// it. After an error the sink is as before.
     pub fn fail_at(&mut self, call: u64, keep: usize) -> Result<(), AllocError>
         ensures ok { OnOk result (self.new ≡ record self.old { listed = finite.insert self.old.listed call keep }) }
         ensures err { OnErr result (self.new ≡ self.old) }

@@ -1,4 +1,4 @@
-ghost use Rattle.std.specs.Prelude.{option_copied, ◌≡◌, ◌+◌, ◌<◌, ◌≤◌, ◌↔◌, Some, length, take, not, IsTrue, IfOk, OnOk, OnErr, IsErrOf, string_bytes, ◌++◌, ◌∷◌, []};
+ghost use Rattle.std.specs.Prelude.{◌≡◌, ◌+◌, ◌<◌, ◌≤◌, ◌↔◌, not, [], ◌∷◌, ◌++◌, length, take, string_bytes, option_copied, IsTrue, IfOk, OnOk, OnErr, IsErrOf};
 ghost use Rattle.std.specs.FinMap as finite;
 ghost use Rattle.lw_io.specs.Causes.{Rose};
 ghost use Rattle.lw_io.specs.Files.{IsHeldPart, IsSure, bytes_at};
@@ -12,6 +12,8 @@ use std::collections::BTreeMap;
 use std::marker::Model;
 
 /// Files in memory, of which chosen fetches fail.
+///
+/// A fetch answers `Failed` exactly where no file has the name or the number of the fetch is listed.
 #[derive(Drop)]
 pub struct MemoryStore {
     alloc: Global,
@@ -56,8 +58,8 @@ impl MemoryStore {
         set_bytes(&mut self.files, key, value)
     }
 
-    /// Lists the fetch of that number, counted from 1, among those that fail. After an error the
-    /// store is as before.
+    /// Lists the fetch of that number, counted from 1, among those that fail. The numbers stand
+    /// still at `u64::MAX` once they have reached it. After an error the store is as before.
     pub fn fail_at(&mut self, call: u64) -> Result<(), AllocError>
         ensures ok { OnOk result (self.new ≡ record self.old { listed = self.old.listed ++ call ∷ [] }) }
         ensures err { OnErr result (self.new ≡ self.old) }

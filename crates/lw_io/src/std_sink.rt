@@ -1,12 +1,16 @@
-ghost use Rattle.std.specs.Prelude.{◌≡◌};
+ghost use Rattle.std.specs.Prelude.{◌≡◌, OnOk, OnErr};
+ghost use Rattle.std.specs.Io.KnownBytes.{Appends};
+ghost use Rattle.lw_io.specs.Written.{AppendsPart};
 
 use super::count::count_one;
 use super::sink::{Failed, Sink};
-use std::io::Print;
+use std::io::{self, Print, Write};
 
 /// The runtime's standard output.
 ///
-/// It doesn't tell what was written, so no contract says what it writes.
+/// A write answers `Failed` at every error of the system, and where the system takes nothing of a
+/// piece that isn't empty, and counts it. The sink doesn't tell its output, so no contract says
+/// what reaches it.
 #[derive(Drop)]
 pub struct StdSink<R: Print + Drop> {
     rt: R,
@@ -30,7 +34,7 @@ impl<R: Print + Drop> Sink for StdSink<R> {
     ghost faults = { λ sink. sink.faults };
 
     fn write(&mut self, piece: &[u8]) -> Result<(), Failed> {
-        let written = write_whole(&self.rt, piece);
+        let written = write_whole(&mut io::writer(&self.rt), piece);
         if written.is_err() {
             count_one(&mut self.faults);
         }
@@ -38,11 +42,15 @@ impl<R: Print + Drop> Sink for StdSink<R> {
     }
 }
 
-// Writes until the piece is whole. A write that takes nothing of the rest is a failure.
-fn write_whole<R: Print>(rt: &R, piece: &[u8]) -> Result<(), Failed> {
+// Writes until the piece is whole. A write that takes nothing of the rest is a failure. A writer
+// that tells its bytes has the piece at their end then, and after a failure a first part of it.
+fn write_whole<W: Write>(writer: &mut W, piece: &[u8]) -> Result<(), Failed>
+    ensures whole { OnOk result (Appends (W.contents writer.old) (W.contents writer.new) piece.now) }
+    ensures part { OnErr result (AppendsPart (W.contents writer.old) (W.contents writer.new) piece.now) }
+{
     let mut rest = piece;
     while !rest.is_empty() {
-        match rt.write_some(rest) {
+        match writer.write(rest) {
             Ok(0) | Err(_) => return Err(Failed),
             Ok(count) => rest = &rest[count..],
         }
