@@ -5,3 +5,4 @@ pub mod Members
 pub mod Subformulas
 pub mod Revaluation
 pub mod OneWorld
+pub mod ByteOrder

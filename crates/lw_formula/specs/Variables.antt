@@ -1,5 +1,6 @@
 -- The variables of a formula, and substitution for one of them.
-use Rattle.std.specs.Prelude.{◌≡◌, ℕ, ◌⊎◌, List, if◌then◌else◌, AllPairs, Contains, ◌↔◌}
+use Rattle.std.specs.Prelude.{◌≡◌, ℕ, ◌≤◌, ◌⊎◌, List, length, if◌then◌else◌, AllPairs, Contains, ◌↔◌}
+use Rattle.std.specs.List.{AllWithin}
 use Rattle.std.specs.Ordering.{nat_cmp}
 use Rattle.std.specs.Cmp.Lexicographic.{slice_cmp}
 use Rattle.std.specs.declared.cmp.Ordering.TheVariants.{Less}
@@ -27,6 +28,17 @@ AreInByteOrder names = AllPairs (λ p q. slice_cmp nat_cmp p q ≡ Less) names
 pub record AreVariables (a : Formula) (names : List (List ℕ)) : Type 0 where
   pub variables : (p : List ℕ) → Contains names p ↔ Occurs p a
   pub ordered : AreInByteOrder names
+
+-- the new names are the old ones and the variables of the formula, in byte order
+pub record AddsVariables (a : Formula) (old new : List (List ℕ)) : Type 0 where
+  pub names : (p : List ℕ) → Contains new p ↔ (Contains old p ⊎ Occurs p a)
+  pub ordered : AreInByteOrder new
+
+-- each of the first i names stands before p, and p before each of the others
+pub record IsGapFor (names : List (List ℕ)) (p : List ℕ) (i : ℕ) : Type 0 where
+  pub within : i ≤ length names
+  pub before : AllWithin (λ q. slice_cmp nat_cmp q p ≡ Less) names 0 i
+  pub after : AllWithin (λ q. slice_cmp nat_cmp p q ≡ Less) names i (length names)
 
 -- A[p := b]: the formula with b for every p
 abbrev pub replace : List ℕ → Formula → Formula → Formula

@@ -1,10 +1,13 @@
-ghost use Rattle.std.specs.Prelude.{◌≡◌, IfOk, min};
-ghost use Rattle.lw_formula.specs.Formula.{depth};
-ghost use Rattle.lw_formula.specs.Variables.{replace, AreVariables};
+ghost use Rattle.std.specs.Prelude.{◌≡◌, IfOk, IfErr, OnOk, min, length, Contains};
+ghost use Rattle.std.specs.Ordering.{nat_cmp};
+ghost use Rattle.std.specs.Cmp.Lexicographic.{slice_cmp};
+ghost use Rattle.lw_formula.specs.Formula.{depth, letter};
+ghost use Rattle.lw_formula.specs.Variables.{replace, AreVariables, AreInByteOrder, AddsVariables, IsGapFor};
 ghost use Rattle.lw_formula.specs.Tree.{tree_of};
 
 use crate::name::Name;
 use std::alloc::{AllocError, Global};
+use std::cmp::Ordering;
 
 /// A formula as a plain tree.
 #[derive(Debug, Drop)]
@@ -100,5 +103,100 @@ impl Form {
             Form::Nec(a) => Ok(Form::Nec(Box::new(alloc, a.substitute(alloc, name, by)?)?)),
             Form::Poss(a) => Ok(Form::Poss(Box::new(alloc, a.substitute(alloc, name, by)?)?)),
         }
+    }
+
+    /// The variables of the formula, each once, in the order of their bytes. It fails for want of memory alone.
+    pub fn variables(&self, alloc: Global) -> Result<Vec<Name>, AllocError>
+        ensures { IfOk result (λ names. AreVariables (tree_of self.now) names.items) }
+    {
+        let mut names = Vec::new(alloc);
+        self.add_variables(&mut names)?;
+        Ok(names)
+    }
+
+    // Adds the variables that aren't there yet, each in its place.
+    fn add_variables(&self, names: &mut Vec<Name>) -> Result<(), AllocError>
+        requires { AreInByteOrder names.old.items }
+        ensures { OnOk result (AddsVariables (tree_of self.now) names.old.items names.new.items) }
+    {
+        match self {
+            Form::Var(name) => add_name(names, name),
+            Form::Bot | Form::Top => Ok(()),
+            Form::Not(a) | Form::Nec(a) | Form::Poss(a) => a.add_variables(names),
+            Form::And(a, b) | Form::Or(a, b) | Form::Imp(a, b) | Form::Iff(a, b) => {
+                a.add_variables(names)?;
+                b.add_variables(names)
+            }
+        }
+    }
+}
+
+// Puts the name into its place, unless it is there.
+fn add_name(names: &mut Vec<Name>, name: &Name) -> Result<(), AllocError>
+    requires { AreInByteOrder names.old.items }
+    ensures { OnOk result (AddsVariables (letter name.now) names.old.items names.new.items) }
+{
+    if let Err(place) = place_of(names.as_slice(), name) {
+        names.insert(place, name.try_clone()?)?;
+    }
+    Ok(())
+}
+
+// Where the name stands, or where it would go.
+fn place_of(names: &[Name], name: &Name) -> Result<usize, usize>
+    requires { AreInByteOrder names.now }
+    ensures found { IfOk result (λ _. Contains names.now name.now) }
+    ensures absent { IfErr result (IsGapFor names.now name.now) }
+{
+    names.binary_search_by(|own| order(own, name))
+}
+
+// How the names compare by their bytes.
+fn order(name: &Name, other: &Name) -> Ordering
+    ensures { result ≡ slice_cmp nat_cmp name.now other.now }
+{
+    name.as_bytes().cmp(other.as_bytes())
+}
+
+#[cfg(test)]
+mod tests {
+    use super::*;
+    use std::test::Fail;
+
+    fn variable(alloc: Global, name: &str) -> Result<Form, Fail> {
+        Ok(Form::Var(Name::from_bytes(alloc, name.as_bytes())?))
+    }
+
+    fn boxed(alloc: Global, a: Form) -> Result<Form, Fail> {
+        Ok(Form::Nec(Box::new(alloc, a)?))
+    }
+
+    fn both(alloc: Global, a: Form, b: Form) -> Result<Form, Fail> {
+        Ok(Form::And(Box::new(alloc, a)?, Box::new(alloc, b)?))
+    }
+
+    #[test]
+    fn variables_come_in_byte_order(rt: HostRuntime) -> Result<(), Fail> {
+        let alloc = rt.alloc();
+        let first = boxed(alloc, variable(alloc, "q")?)?;
+        let second = both(alloc, variable(alloc, "p")?, variable(alloc, "q")?)?;
+        let form = Form::Imp(Box::new(alloc, first)?, Box::new(alloc, second)?);
+        let names = form.variables(alloc)?;
+        assert_eq!(rt; names.len(), 2);
+        assert_eq!(rt; names[0].as_bytes(), b"p".as_slice());
+        assert_eq!(rt; names[1].as_bytes(), b"q".as_slice());
+        Ok(())
+    }
+
+    #[test]
+    fn substitution_reaches_each_occurrence(rt: HostRuntime) -> Result<(), Fail> {
+        let alloc = rt.alloc();
+        let by = boxed(alloc, variable(alloc, "r")?)?;
+        let form = both(alloc, variable(alloc, "p")?, variable(alloc, "q")?)?;
+        let changed = form.substitute(alloc, &Name::from_bytes(alloc, b"p")?, &by)?;
+        let expected = both(alloc, by.try_clone(alloc)?, variable(alloc, "q")?)?;
+        let text = format!(in alloc; "{changed:?}")?;
+        assert_eq!(rt; text.as_str(), format!(in alloc; "{expected:?}")?.as_str());
+        Ok(())
     }
 }
