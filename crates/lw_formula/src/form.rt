@@ -131,8 +131,8 @@ impl Form {
     }
 }
 
-// Puts the name into its place, unless it is there.
-fn add_name(names: &mut Vec<Name>, name: &Name) -> Result<(), AllocError>
+/// Puts the name into its place, unless it is there. It fails for want of memory alone.
+pub fn add_name(names: &mut Vec<Name>, name: &Name) -> Result<(), AllocError>
     requires { AreInByteOrder names.old.items }
     ensures { OnOk result (AddsVariables (letter name.now) names.old.items names.new.items) }
 {

@@ -1,0 +1,12 @@
+pub mod Listing
+pub mod Children
+pub mod Insertion
+pub mod Growth
+pub mod Tables
+pub mod Below
+pub mod Marking
+pub mod Counting
+pub mod Collecting
+pub mod Naming
+pub mod Imaging
+pub mod Replacing

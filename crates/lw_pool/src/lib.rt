@@ -1,0 +1,20 @@
+//! A region of formulas that the upper layers share: each formula once, behind its operands.
+#![tactic(auto)]
+
+mod components;
+mod conversion;
+mod depth;
+mod id;
+mod mark;
+mod node;
+mod pool;
+mod subformula;
+mod substitution;
+#[cfg(test)]
+mod tests;
+mod variable;
+
+pub use id::{FormId, SignedId};
+pub use mark::Mark;
+pub use node::Node;
+pub use pool::Pool;
