@@ -1,0 +1,5 @@
+use Rattle.lw_read.proofs.Accepts.{same_tree}
+use Rattle.lw_read.proofs.laws.one_tree.Goals as goal
+
+pub returns : goal.returns
+returns c = same_tree

@@ -1,0 +1,21 @@
+//! Reading and printing formulas: each text has exactly one tree or exactly one fault at its place, and what is
+//! printed reads back.
+#![tactic(auto)]
+
+mod fault;
+mod laws;
+mod lexeme;
+mod lexer;
+mod measure;
+mod pool_printer;
+mod print_fault;
+mod printer;
+mod reader;
+
+pub use fault::ReadFault;
+pub use laws::{one_answer, one_tree, reads_back};
+pub use lexer::{Token, TokenKind, tokens};
+pub use pool_printer::{LONGEST_TEXT, print_formula};
+pub use print_fault::PrintFault;
+pub use printer::print_form;
+pub use reader::read_formula;

@@ -1,0 +1,451 @@
+ghost use Rattle.std.specs.Prelude.{◌≡◌, ℕ, ◌≤◌, nat_lt, false, List, length, IfOk, IfErr, OnOk, ◌∷◌};
+ghost use Rattle.std.specs.List.{list_all};
+ghost use Rattle.lw_formula.specs.Formula.{Formula};
+ghost use Rattle.lw_formula.specs.Tree.{tree_of};
+ghost use Rattle.lw_formula.specs.Name.{is_word_byte};
+ghost use Rattle.lw_read.specs.Tokens.{tokens_of};
+ghost use Rattle.lw_read.specs.Lexemes.{lexeme_of, other_lexeme, is_long};
+ghost use Rattle.lw_read.specs.Places.{nesting_limit};
+ghost use Rattle.lw_read.specs.Grammar.{join, apply, ReadsAs, IsFaultOf};
+ghost use Rattle.lw_read.specs.Machine.{Frame, State, finish, frame_rank, reduce, begin, go_on, step, height};
+ghost use Rattle.lw_read.specs.Views.{lexeme, frame, frames, top_rank, state, IsShortVariable, Keeps, Refuses};
+
+use crate::fault::ReadFault;
+use crate::lexeme::{Connective, Part, Prefix, part_of, rank};
+use crate::lexer::{Token, is_word_byte, tokens};
+use lw_formula::{Form, Name, NameFault};
+use std::alloc::{AllocError, Global};
+
+/// How many constructs may be unfinished at once.
+const NESTING_LIMIT: usize = 400;
+
+/// The most bytes of a name.
+const LONGEST_NAME: usize = 64;
+
+/// A construct that waits for its end.
+#[derive(Drop)]
+pub enum Unfinished {
+    Prefixed(Prefix),
+    Left(Connective, Form),
+    Bracket,
+}
+
+/// What the tokens so far leave open: an operand is needed, or is there, or the text is over.
+#[derive(Drop)]
+pub enum Progress {
+    Needed,
+    Operand(Form),
+    Over(Form),
+}
+
+// The level of the expression that the construct ends as.
+fn level(unfinished: &Unfinished) -> u8
+    ensures { result ≡ frame_rank (frame unfinished.now) }
+{
+    match unfinished {
+        Unfinished::Prefixed(_) => 5,
+        Unfinished::Left(sign, _) => rank(*sign),
+        Unfinished::Bracket => 0,
+    }
+}
+
+// The formula of the sign and its operand.
+fn applied(alloc: Global, sign: Prefix, operand: Form) -> Result<Form, AllocError>
+    ensures { IfOk result (λ form. tree_of form ≡ apply sign (tree_of operand)) }
+{
+    let operand = Box::new(alloc, operand)?;
+    Ok(match sign {
+        Prefix::Not => Form::Not(operand),
+        Prefix::Nec => Form::Nec(operand),
+        Prefix::Poss => Form::Poss(operand),
+    })
+}
+
+// The formula of the sign and its operands.
+fn joined(alloc: Global, sign: Connective, left: Form, right: Form) -> Result<Form, AllocError>
+    ensures { IfOk result (λ form. tree_of form ≡ join sign (tree_of left) (tree_of right)) }
+{
+    let left = Box::new(alloc, left)?;
+    let right = Box::new(alloc, right)?;
+    Ok(match sign {
+        Connective::And => Form::And(left, right),
+        Connective::Or => Form::Or(left, right),
+        Connective::Imp => Form::Imp(left, right),
+        Connective::Iff => Form::Iff(left, right),
+    })
+}
+
+// The formula of the construct and its last operand.
+fn finished(alloc: Global, unfinished: Unfinished, operand: Form) -> Result<Form, AllocError>
+    ensures { IfOk result (λ form. tree_of form ≡ finish (frame unfinished) (tree_of operand)) }
+{
+    match unfinished {
+        Unfinished::Prefixed(sign) => applied(alloc, sign, operand),
+        Unfinished::Left(sign, left) => joined(alloc, sign, left, operand),
+        Unfinished::Bracket => Ok(operand),
+    }
+}
+
+// The level of the innermost construct, or 0.
+fn top_level(stack: &[Unfinished]) -> u8
+    ensures { result ≡ top_rank (frames stack.now) }
+{
+    match stack.last() {
+        Some(unfinished) => level(unfinished),
+        None => 0,
+    }
+}
+
+// Puts a construct on the stack.
+fn pushed(stack: &mut Vec<Unfinished>, unfinished: Unfinished) -> Result<(), AllocError>
+    ensures { OnOk result (frames stack.new.items ≡ frame unfinished ∷ frames stack.old.items) }
+{
+    stack.push(unfinished)?;
+    Ok(())
+}
+
+// Ends the constructs that bind tighter than the level.
+fn reduced(
+    alloc: Global,
+    least: u8,
+    mut operand: Form,
+    stack: &mut Vec<Unfinished>,
+) -> Result<Form, AllocError>
+    ensures { IfOk result (λ form. (go : Formula → List Frame → State)
+        → reduce go least (tree_of operand) (frames stack.old.items) ≡ go (tree_of form) (frames stack.new.items)) }
+{
+    'tighter: while top_level(stack.as_slice()) > least {
+        if let Some(unfinished) = stack.pop() {
+            operand = finished(alloc, unfinished, operand)?;
+        }
+    }
+    Ok(operand)
+}
+
+// Whether the word is a variable of too many bytes.
+#[tactic(auto, using(crate::proofs::Named::is_long_is))]
+fn is_long_variable(word: &[u8]) -> bool
+    ensures { result ≡ is_long (other_lexeme word.now) }
+{
+    match word {
+        [first, ..] => word.len() > LONGEST_NAME && first.is_ascii_lowercase() && is_word(word),
+        [] => false,
+    }
+}
+
+fn is_word(bytes: &[u8]) -> bool
+    ensures { result ≡ list_all is_word_byte bytes.now }
+{
+    bytes.iter().all(|byte| is_word_byte(*byte))
+}
+
+// The variable that the word is.
+fn named(alloc: Global, word: &[u8], at: usize) -> Result<Form, ReadFault>
+    ensures ok { IfOk result (λ form. IsShortVariable word.now (tree_of form)) }
+    ensures fault { IfErr result (λ fault. (fs : List Frame)
+        → Refuses (begin (other_lexeme word.now) fs) (other_lexeme word.now) at fault) }
+{
+    match Name::from_bytes(alloc, word) {
+        Ok(name) => Ok(Form::Var(name)),
+        Err(NameFault::Memory) => Err(ReadFault::Memory),
+        Err(NameFault::BadName) => {
+            if is_long_variable(word) {
+                Err(ReadFault::Name { at })
+            } else {
+                Err(ReadFault::Unexpected { at })
+            }
+        }
+    }
+}
+
+// Takes a token where an operand is needed.
+fn begun(
+    alloc: Global,
+    part: Part,
+    bytes: &[u8],
+    at: usize,
+    stack: &mut Vec<Unfinished>,
+) -> Result<Progress, ReadFault>
+    ensures ok { IfOk result (λ progress. let t = lexeme part bytes.now in
+        (state progress (frames stack.new.items) ≡ begin t (frames stack.old.items)) × (is_long t ≡ false)) }
+    ensures fault { IfErr result (λ fault. let t = lexeme part bytes.now in
+        Refuses (begin t (frames stack.old.items)) t at fault) }
+{
+    match part {
+        Part::Word => Ok(Progress::Operand(named(alloc, bytes, at)?)),
+        Part::Truth => Ok(Progress::Operand(Form::Top)),
+        Part::Falsity => Ok(Progress::Operand(Form::Bot)),
+        Part::Before(sign) => {
+            pushed(stack, Unfinished::Prefixed(sign))?;
+            Ok(Progress::Needed)
+        }
+        Part::Open => {
+            pushed(stack, Unfinished::Bracket)?;
+            Ok(Progress::Needed)
+        }
+        Part::Between(_) | Part::Close | Part::End | Part::Foreign => {
+            Err(ReadFault::Unexpected { at })
+        }
+    }
+}
+
+// Takes a token where an operand is there.
+fn gone_on(
+    alloc: Global,
+    part: Part,
+    at: usize,
+    operand: Form,
+    stack: &mut Vec<Unfinished>,
+) -> Result<Progress, ReadFault>
+    ensures ok { IfOk result (λ progress. (bytes : List ℕ) → let t = lexeme part bytes in
+        (state progress (frames stack.new.items) ≡ go_on t (tree_of operand) (frames stack.old.items))
+        × (is_long t ≡ false)) }
+    ensures fault { IfErr result (λ fault. (bytes : List ℕ) → let t = lexeme part bytes in
+        Refuses (go_on t (tree_of operand) (frames stack.old.items)) t at fault) }
+{
+    match part {
+        Part::Between(sign) => {
+            let left = reduced(alloc, rank(sign), operand, stack)?;
+            pushed(stack, Unfinished::Left(sign, left))?;
+            Ok(Progress::Needed)
+        }
+        Part::Close => {
+            let inner = reduced(alloc, 0, operand, stack)?;
+            match stack.pop() {
+                Some(Unfinished::Bracket) => Ok(Progress::Operand(inner)),
+                _ => Err(ReadFault::Unexpected { at }),
+            }
+        }
+        Part::End => {
+            let whole = reduced(alloc, 0, operand, stack)?;
+            if stack.is_empty() {
+                Ok(Progress::Over(whole))
+            } else {
+                Err(ReadFault::Unexpected { at })
+            }
+        }
+        Part::Word | Part::Truth | Part::Falsity | Part::Before(_) | Part::Open | Part::Foreign => {
+            Err(ReadFault::Unexpected { at })
+        }
+    }
+}
+
+// Whether more constructs are unfinished than may be.
+fn is_nested(progress: &Progress, stack: &[Unfinished]) -> bool
+    ensures { result ≡ nat_lt nesting_limit (height (state progress.now (frames stack.now))) }
+{
+    match progress {
+        Progress::Needed | Progress::Operand(_) => stack.len() > NESTING_LIMIT,
+        Progress::Over(_) => false,
+    }
+}
+
+// Takes a token.
+fn advanced(
+    alloc: Global,
+    text: &[u8],
+    token: Token,
+    progress: Progress,
+    stack: &mut Vec<Unfinished>,
+) -> Result<Progress, ReadFault>
+    requires start { token.start ≤ token.end }
+    requires within { token.end ≤ length text.now }
+    ensures ok { IfOk result (λ next.
+        let t = lexeme_of text.now token in let s = step t (state progress (frames stack.old.items)) in
+        (state next (frames stack.new.items) ≡ s) × Keeps s t) }
+    ensures fault { IfErr result (λ fault.
+        let t = lexeme_of text.now token in let s = step t (state progress (frames stack.old.items)) in
+        Refuses s t token.start fault) }
+{
+    let at = token.start;
+    let bytes = &text[token.start..token.end];
+    let part = part_of(token.kind, bytes);
+    let next = match progress {
+        Progress::Needed => begun(alloc, part, bytes, at, stack)?,
+        Progress::Operand(operand) => gone_on(alloc, part, at, operand, stack)?,
+        Progress::Over(_) => return Err(ReadFault::Unexpected { at }),
+    };
+    if is_nested(&next, stack.as_slice()) {
+        return Err(ReadFault::Nested { at });
+    }
+    Ok(next)
+}
+
+fn read_tokens(alloc: Global, text: &[u8], tokens: &[Token]) -> Result<Form, ReadFault>
+    requires { tokens.now ≡ tokens_of text.now }
+    ensures formula { IfOk result (λ form. ReadsAs text.now (tree_of form)) }
+    ensures fault { IfErr result (λ fault. IsFaultOf text.now fault) }
+{
+    let mut stack = Vec::new(alloc);
+    let mut progress = Progress::Needed;
+    for token in tokens {
+        progress = advanced(alloc, text, *token, progress, &mut stack)?;
+    }
+    match progress {
+        Progress::Over(form) => Ok(form),
+        Progress::Needed | Progress::Operand(_) => unreachable!(),
+    }
+}
+
+/// The formula that a text is. Where it is none, the fault of its first token that has one, at the token's first
+/// byte: within one token `Unexpected` comes before `Name`, and `Name` before `Nested`.
+pub fn read_formula(alloc: Global, text: &[u8]) -> Result<Form, ReadFault>
+    ensures formula { IfOk result (λ form. ReadsAs text.now (tree_of form)) }
+    ensures fault { IfErr result (λ fault. IsFaultOf text.now fault) }
+{
+    let tokens = tokens(alloc, text)?;
+    read_tokens(alloc, text, tokens.as_slice())
+}
+
+#[cfg(test)]
+mod tests {
+    use super::*;
+    use crate::printer::print_form;
+    use std::process::Abort;
+    use std::test::Fail;
+
+    // The text so often, and then the rest.
+    fn repeated(
+        alloc: Global,
+        unit: &[u8],
+        times: usize,
+        rest: &[u8],
+    ) -> Result<Vec<u8>, AllocError> {
+        let mut text = Vec::new(alloc);
+        for _ in 0..times {
+            text.extend_from_slice(unit)?;
+        }
+        text.extend_from_slice(rest)?;
+        Ok(text)
+    }
+
+    // Each text reads, and its formula is printed as stated.
+    fn assert_printed(rt: &impl Abort, alloc: Global, rows: &[(&str, &str)]) -> Result<(), Fail> {
+        for (text, printed) in rows {
+            let form = read_formula(alloc, text.as_bytes())?;
+            let out = print_form(alloc, &form)?;
+            assert_eq!(rt; out.as_slice(), printed.as_bytes());
+        }
+        Ok(())
+    }
+
+    // The text has this fault.
+    fn assert_fault(rt: &impl Abort, alloc: Global, text: &[u8], fault: ReadFault) {
+        assert_eq!(rt; read_formula(alloc, text).err(), Some(fault));
+    }
+
+    #[test]
+    fn texts_print_with_the_fewest_brackets(rt: HostRuntime) -> Result<(), Fail> {
+        let rows = [
+            ("(p -> q) -> r", "(p -> q) -> r"),
+            ("p -> (q -> r)", "p -> q -> r"),
+            ("p->q->r", "p -> q -> r"),
+            ("(p & q) & r", "(p & q) & r"),
+            ("p & (q v r)", "p & (q v r)"),
+            ("((p & q) v r)", "p & q v r"),
+            ("p <-> q -> r v p & q", "p <-> q -> r v p & q"),
+            ("~(p v q)", "~(p v q)"),
+            ("~ ~ (p)", "~~p"),
+            ("box ~p", "box ~p"),
+            ("box(p & q)", "box(p & q)"),
+            ("box ( dia ( true -> false ) )", "box dia(true -> false)"),
+            (" \t\r\n # ~\n p_1 # end", "p_1"),
+        ];
+        assert_printed(&rt, rt.alloc(), &rows)
+    }
+
+    #[test]
+    fn a_text_cut_at_each_byte_is_a_formula_or_unexpected(rt: HostRuntime) -> Result<(), Fail> {
+        let text = b"~(p & q) -> box r";
+        // A lone `-` is a token of its own, and `b` and `bo` are variables.
+        let places = [
+            Some(0),
+            Some(1),
+            Some(2),
+            Some(3),
+            Some(4),
+            Some(5),
+            Some(6),
+            Some(7),
+            None,
+            None,
+            Some(9),
+            Some(11),
+            Some(12),
+            None,
+            None,
+            Some(15),
+            Some(16),
+            None,
+        ];
+        for (len, place) in places.iter().enumerate() {
+            let fault = place.map(|at| ReadFault::Unexpected { at });
+            assert_eq!(&rt; read_formula(rt.alloc(), &text[..len]).err(), fault);
+        }
+        Ok(())
+    }
+
+    #[test]
+    fn a_fault_stands_at_its_token(rt: HostRuntime) -> Result<(), Fail> {
+        let alloc = rt.alloc();
+        assert_fault(&rt, alloc, b"p &", ReadFault::Unexpected { at: 3 });
+        assert_fault(&rt, alloc, b"p # & q\n r", ReadFault::Unexpected { at: 9 });
+        assert_fault(&rt, alloc, b"p & \xc3\xa9", ReadFault::Unexpected { at: 4 });
+        assert_fault(
+            &rt,
+            alloc,
+            b"\xef\xbb\xbfp",
+            ReadFault::Unexpected { at: 0 },
+        );
+        assert_fault(&rt, alloc, b"p -> Q", ReadFault::Unexpected { at: 5 });
+        assert_fault(&rt, alloc, b"p -> s4", ReadFault::Unexpected { at: 5 });
+        assert_fault(&rt, alloc, b"(p))", ReadFault::Unexpected { at: 3 });
+        Ok(())
+    }
+
+    #[test]
+    fn a_name_has_64_bytes_at_most(rt: HostRuntime) -> Result<(), Fail> {
+        let alloc = rt.alloc();
+        let longest = repeated(alloc, b"x", 64, b"")?;
+        assert!(&rt; read_formula(alloc, longest.as_slice()).is_ok());
+        let longer = repeated(alloc, b"x", 65, b"")?;
+        assert_fault(&rt, alloc, longer.as_slice(), ReadFault::Name { at: 0 });
+        // Where no operand is needed, the word is unexpected before it is too long.
+        let behind = repeated(alloc, b"p ", 1, longer.as_slice())?;
+        assert_fault(
+            &rt,
+            alloc,
+            behind.as_slice(),
+            ReadFault::Unexpected { at: 2 },
+        );
+        Ok(())
+    }
+
+    #[test]
+    fn four_hundred_constructs_may_be_unfinished(rt: HostRuntime) -> Result<(), Fail> {
+        let alloc = rt.alloc();
+        // A construct, and the byte of the 401st one's sign.
+        let units = [
+            ("~", 400),
+            ("box ", 1600),
+            ("dia ", 1600),
+            ("p&", 801),
+            ("p v ", 1602),
+            ("p->", 1201),
+            ("p<->", 1601),
+        ];
+        for (unit, at) in units {
+            let most = repeated(alloc, unit.as_bytes(), 400, b"p")?;
+            assert!(&rt; read_formula(alloc, most.as_slice()).is_ok());
+            let more = repeated(alloc, unit.as_bytes(), 401, b"p")?;
+            assert_fault(&rt, alloc, more.as_slice(), ReadFault::Nested { at });
+        }
+        let closing = repeated(alloc, b")", 400, b"")?;
+        let open = repeated(alloc, b"p", 1, closing.as_slice())?;
+        let most = repeated(alloc, b"(", 400, open.as_slice())?;
+        assert!(&rt; read_formula(alloc, most.as_slice()).is_ok());
+        let more = repeated(alloc, b"(", 401, open.as_slice())?;
+        assert_fault(&rt, alloc, more.as_slice(), ReadFault::Nested { at: 400 });
+        Ok(())
+    }
+}
