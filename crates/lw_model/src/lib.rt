@@ -1,0 +1,11 @@
+//! Finite Kripke models, the classes of the six logics, and truth of a pool's formulas at their worlds.
+#![tactic(auto)]
+
+mod class;
+mod model;
+mod row;
+mod truth;
+
+pub use class::in_class;
+pub use model::Model;
+pub use truth::holds;
