@@ -1,0 +1,5 @@
+use Rattle.lw_proof.proofs.Larger.{equal_closed}
+use Rattle.lw_proof.proofs.laws.extensionality.Goals as goal
+
+pub returns : goal.returns
+returns c = equal_closed

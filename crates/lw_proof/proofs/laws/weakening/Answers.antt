@@ -1,0 +1,5 @@
+use Rattle.lw_proof.proofs.Larger.{larger_closed}
+use Rattle.lw_proof.proofs.laws.weakening.Goals as goal
+
+pub returns : goal.returns
+returns c = larger_closed

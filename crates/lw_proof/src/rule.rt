@@ -1,0 +1,18 @@
+/// A rule of the calculus, which a step of a proof names.
+#[derive(Clone, Copy, Debug, PartialEq, Eq, Hash)]
+pub enum Rule {
+    /// A formula stands under both signs: there are no premises.
+    Close,
+    /// `T false` or `F true`: there are no premises.
+    Absurd,
+    /// All components of the principal are added.
+    One,
+    /// In the first premise one side of the principal is added, in the second the other.
+    Two,
+    /// The component of a ν is added.
+    Refl,
+    /// A world that the present one sees: the component of a π, and what the logic keeps.
+    Step,
+    /// In the first premise a formula is added under T, in the second under F.
+    Cut,
+}
