@@ -1,0 +1,4 @@
+mod Bits
+mod Places
+mod Stored
+pub mod LastRow
