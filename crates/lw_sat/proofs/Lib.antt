@@ -1,0 +1,4 @@
+pub mod Rules
+pub mod Branches
+pub mod Weights
+pub mod OpenBranch
