@@ -1,4 +1,6 @@
+pub mod Place
 pub mod Asked
 pub mod Lines
 pub mod Outcome
+pub mod Steps
 pub mod Headline

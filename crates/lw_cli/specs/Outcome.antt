@@ -1,34 +1,41 @@
 -- The meaning of the commands: which output and which status a file's bytes allow.
-use Rattle.std.specs.Prelude.{◌≡◌, ℕ, ◌<◌, ◌≤◌, List, length, Option, Some, None, if◌then◌else◌, codes}
-use Rattle.std.specs.Str.{bytes_eq}
+use Rattle.std.specs.Prelude.{◌≡◌, ℕ, ◌<◌, ◌≤◌, List, length, Option}
 use Rattle.lw_io.specs.Files.{Files, IsHeld}
 use Rattle.lw_formula.specs.declared.logic.Logic.{Logic}
-use Rattle.lw_formula.specs.Name.{is_name}
-use Rattle.lw_formula.specs.Formula.{Formula, letter, falsum, verum}
+use Rattle.lw_formula.specs.Formula.{Formula, depth}
 use Rattle.lw_formula.specs.Validity.{Valid}
+use Rattle.lw_read.specs.declared.fault.ReadFault.{ReadFault}
+use Rattle.lw_read.specs.Grammar.{ReadsAs, IsFaultOf}
 use Rattle.lw_cli.specs.declared.asked.Command.{Command}
 use Rattle.lw_cli.specs.declared.asked.Command.TheVariants.{Prove}
 use Rattle.lw_cli.specs.declared.answer.Answer.{Answer}
-use Rattle.lw_cli.specs.declared.answer.Answer.TheVariants.{FileLimit, NotBuilt, Yes, No}
+use Rattle.lw_cli.specs.declared.answer.Answer.TheVariants.{FileLimit, Syntax, NotBuilt, Yes, No}
+use Rattle.lw_cli.specs.declared.answer.SyntaxWhy.{SyntaxWhy}
+use Rattle.lw_cli.specs.declared.place.Place.{Place}
+use Rattle.lw_cli.specs.Place.{line_at, column_at}
 use Rattle.lw_cli.specs.Lines.{line_of, status_of}
 
 -- the greatest number of bytes of a file that is read
 abbrev pub file_limit : ℕ
 file_limit = 1048576
 
--- the formula of a text that is exactly `true`, `false` or a name
-abbrev pub atom_of : List ℕ → Option Formula
-atom_of bytes =
-    if bytes_eq bytes (codes "true") then Some verum else
-    if bytes_eq bytes (codes "false") then Some falsum else
-    if is_name bytes then Some (letter bytes) else None
+-- the reader's fault of this kind at this byte
+abbrev pub fault_at : SyntaxWhy → ℕ → ReadFault
+fault_at SyntaxWhy.Unexpected at = ReadFault.Unexpected at
+fault_at SyntaxWhy.Nested at = ReadFault.Nested at
+fault_at SyntaxWhy.Name at = ReadFault.Name at
+
+-- the text's first fault is of this kind, and stands at this line and column
+abbrev pub IsFirstFault : List ℕ → Place → SyntaxWhy → Type 0
+IsFirstFault text place why = (at : ℕ) × IsFaultOf text (fault_at why at) × (place.line ≡ line_at text at) × (place.column ≡ column_at text at)
 
 -- what is to be said of a file of these bytes: the first fault that there is, else whether its formula is valid in the logic
 pub data IsAnswer (logic : Logic) (bytes : List ℕ) : Answer → Type 0 where
   too_long : file_limit < length bytes → IsAnswer logic bytes FileLimit
-  not_built : length bytes ≤ file_limit → atom_of bytes ≡ None → IsAnswer logic bytes NotBuilt
-  valid : (a : Formula) → length bytes ≤ file_limit → atom_of bytes ≡ Some a → Valid logic a → IsAnswer logic bytes Yes
-  not_valid : (a : Formula) → length bytes ≤ file_limit → atom_of bytes ≡ Some a → ¬ Valid logic a → IsAnswer logic bytes No
+  refused : (place : Place) (why : SyntaxWhy) → length bytes ≤ file_limit → IsFirstFault bytes place why → IsAnswer logic bytes (Syntax place why)
+  not_built : (a : Formula) → length bytes ≤ file_limit → ReadsAs bytes a → 0 < depth a → IsAnswer logic bytes NotBuilt
+  valid : (a : Formula) → length bytes ≤ file_limit → ReadsAs bytes a → depth a ≡ 0 → Valid logic a → IsAnswer logic bytes Yes
+  not_valid : (a : Formula) → length bytes ≤ file_limit → ReadsAs bytes a → depth a ≡ 0 → ¬ Valid logic a → IsAnswer logic bytes No
 
 -- what is to be said of the named file, where the files are told
 abbrev pub IsAnswerOf : Logic → Option Files → List ℕ → Answer → Type 0

@@ -3,15 +3,17 @@
 
 mod answer;
 mod asked;
+mod place;
 mod prove;
 #[cfg(test)]
 mod tests;
 mod words;
 mod workbench;
 
-pub use answer::Answer;
+pub use answer::{Answer, SyntaxWhy};
 pub use asked::{Command, FileName};
 use lw_io::{DiskStore, StdSink};
+pub use place::{Place, place_of};
 use std::env;
 use std::io::ErrorKind;
 use std::process::ExitCode;

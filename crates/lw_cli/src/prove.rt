@@ -1,47 +1,64 @@
 ghost use Rattle.std.specs.Prelude.{◌≡◌, ◌≢◌, ◌≤◌, ◌⊎◌, IfOk, IsErrOf};
 ghost use Rattle.lw_io.specs.Causes.{Rose};
 ghost use Rattle.lw_io.specs.Files.{IsSure};
-ghost use Rattle.lw_formula.specs.Name.{is_name};
+ghost use Rattle.lw_formula.specs.Tree.{tree_of};
+ghost use Rattle.lw_read.specs.Grammar.{IsFaultOf};
 ghost use Rattle.lw_cli.specs.Outcome.{IsAnswer, IsAnswerOf};
+ghost use Rattle.lw_cli.specs.Steps.{IsRefusal, IsDecision};
 ghost use Rattle.lw_cli.specs.Headline.{Answers, AnswersPart, IsUnsureOf};
 
-use crate::answer::Answer;
+use crate::answer::{Answer, SyntaxWhy};
 use crate::asked::{Command, FileName};
-use lw_formula::{Logic, Name, NameFault};
+use crate::place::place_of;
+use lw_formula::{Form, Logic};
 use lw_io::{FetchFault, Sink, Store};
+use lw_read::{ReadFault, read_formula};
+use lw_sat::saturated;
 use std::alloc::{AllocError, Global};
 
 /// The greatest number of bytes of a file that is read.
 const FILE_LIMIT: usize = 1_048_576;
 
-// Whether the bytes are a name.
-fn is_variable(alloc: Global, bytes: &[u8]) -> Result<bool, AllocError>
-    ensures { IfOk result (λ answer. answer ≡ is_name bytes.now) }
-{
-    match Name::from_bytes(alloc, bytes) {
-        Ok(_) => Ok(true),
-        Err(NameFault::BadName) => Ok(false),
-        Err(NameFault::Memory) => Err(AllocError),
-    }
-}
-
 /// What is to be said of a file of these bytes. It fails for want of memory alone.
 fn answer_to(alloc: Global, logic: Logic, bytes: &[u8]) -> Result<Answer, AllocError>
+    requires { logic ≡ Logic.K }
     ensures { IfOk result (IsAnswer logic bytes.now) }
 {
     if bytes.len() > FILE_LIMIT {
         return Ok(Answer::FileLimit);
     }
-    if bytes == b"true".as_slice() {
-        return Ok(Answer::Yes);
+    match read_formula(alloc, bytes) {
+        Ok(form) => decision(alloc, &form),
+        Err(fault) => refusal(bytes, &fault),
     }
-    if bytes == b"false".as_slice() {
-        return Ok(Answer::No);
+}
+
+// What is to be said of a text with this fault.
+fn refusal(bytes: &[u8], fault: &ReadFault) -> Result<Answer, AllocError>
+    requires { IsFaultOf bytes.now fault.now }
+    ensures { IfOk result (IsRefusal bytes.now) }
+{
+    let (at, why) = match fault {
+        ReadFault::Unexpected { at } => (*at, SyntaxWhy::Unexpected),
+        ReadFault::Nested { at } => (*at, SyntaxWhy::Nested),
+        ReadFault::Name { at } => (*at, SyntaxWhy::Name),
+        ReadFault::Memory => return Err(AllocError),
+    };
+    Ok(Answer::Syntax(place_of(bytes, at), why))
+}
+
+// What is to be said of the formula.
+fn decision(alloc: Global, form: &Form) -> Result<Answer, AllocError>
+    ensures { IfOk result (IsDecision Logic.K (tree_of form.now)) }
+{
+    if form.modal_depth() > 0 {
+        return Ok(Answer::NotBuilt);
     }
-    if is_variable(alloc, bytes)? {
-        return Ok(Answer::No);
+    if saturated(alloc, form)? {
+        Ok(Answer::Yes)
+    } else {
+        Ok(Answer::No)
     }
-    Ok(Answer::NotBuilt)
 }
 
 /// What is to be said of the named file. Its faults are those of the fetch, and want of memory.
@@ -51,6 +68,7 @@ fn answer_file<S: Store>(
     file: &FileName,
     store: &mut S,
 ) -> Result<Answer, FetchFault>
+    requires { logic ≡ Logic.K }
     ensures answer { IfOk result (IsAnswerOf logic (S.holds store.old) file.now) }
     ensures cause { IsErrOf result FetchFault.Failed → Rose (S.faults store.old) (S.faults store.new) }
     ensures unsure { IsErrOf result FetchFault.Failed → ¬ IsSure (S.sure store.old) (S.holds store.old) file.now }
@@ -70,6 +88,7 @@ pub fn prove<S: Store, K: Sink>(
     store: &mut S,
     sink: &mut K,
 ) -> u8
+    requires { logic ≡ Logic.K }
     ensures carried_out { (result ≡ 0) ⊎ (result ≡ 1) → Answers (Command.Prove logic file.now) (S.holds store.old) (K.written sink.old) (K.written sink.new) result }
     ensures no_refusal { result ≢ 2 }
     ensures store_failed { result ≡ 3 → Rose (S.faults store.old) (S.faults store.new) }
@@ -85,7 +104,10 @@ pub fn prove<S: Store, K: Sink>(
         Err(FetchFault::Memory) => return 5,
         Ok(answer) => answer,
     };
-    if let Err(_) = sink.write(answer.line().as_bytes()) {
+    let Ok(line) = answer.line(alloc) else {
+        return 5;
+    };
+    if let Err(_) = sink.write(line.as_bytes()) {
         return 4;
     }
     answer.status()

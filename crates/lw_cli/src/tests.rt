@@ -32,8 +32,20 @@ fn answers_files(rt: HostRuntime) -> Result<(), Fail> {
         ("true", 0, "yes\n"),
         ("false", 0, "no\n"),
         ("p", 0, "no\n"),
-        ("p -> q", 1, "fault: not built\n"),
-        ("", 1, "fault: not built\n"),
+        ("p v ~p", 0, "yes\n"),
+        ("p -> q", 0, "no\n"),
+        ("p <-> ~~p", 0, "yes\n"),
+        ("true -> false", 0, "no\n"),
+        ("((p -> q) -> p) -> p", 0, "yes\n"),
+        ("box p", 1, "fault: not built\n"),
+        ("p & dia true", 1, "fault: not built\n"),
+        ("p &", 1, "fault: line 1 column 4: unexpected\n"),
+        ("", 1, "fault: line 1 column 1: unexpected\n"),
+        (
+            "p # a comment\n\n & & q",
+            1,
+            "fault: line 3 column 4: unexpected\n",
+        ),
     ];
     for (text, status, line) in cases {
         let (ended, written) = run(rt.alloc(), &["prove", "k", FILE], text.as_bytes(), 64)?;
@@ -44,10 +56,30 @@ fn answers_files(rt: HostRuntime) -> Result<(), Fail> {
 }
 
 #[test]
+fn names_long_words_and_deep_nesting(rt: HostRuntime) -> Result<(), Fail> {
+    let alloc = rt.alloc();
+    let cases = [
+        (b'a', 64, 0, "no\n"),
+        (b'a', 65, 1, "fault: line 1 column 1: name\n"),
+        (b'~', 401, 1, "fault: line 1 column 401: nested\n"),
+    ];
+    for (byte, length, status, line) in cases {
+        let mut bytes = vec![in alloc; byte; length]?;
+        if byte == b'~' {
+            bytes.push(b'p')?;
+        }
+        let (ended, written) = run(alloc, &["prove", "k", FILE], bytes.as_slice(), 64)?;
+        assert_eq!(rt; ended, status, "at {length}");
+        assert_eq!(rt; written.as_slice(), line.as_bytes(), "at {length}");
+    }
+    Ok(())
+}
+
+#[test]
 fn refuses_longer_files(rt: HostRuntime) -> Result<(), Fail> {
     let alloc = rt.alloc();
     for (length, line) in [
-        (1_048_576, "fault: not built\n"),
+        (1_048_576, "fault: line 1 column 1048577: unexpected\n"),
         (1_048_577, "fault: file limit\n"),
     ] {
         let bytes = vec![in alloc; b' '; length]?;

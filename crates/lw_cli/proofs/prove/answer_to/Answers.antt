@@ -1,30 +1,20 @@
-use Rattle.std.proofs.Common.{◌≡◌, Some, None, arith}
-use Rattle.std.proofs.lemmas.Grind.{common_steps}
-use Rattle.lw_formula.specs.Formula.{letter, falsum, verum}
-use Rattle.lw_formula.proofs.OneWorld.{falsum_not_Valid}
-use Rattle.lw_cli.specs.Outcome.{atom_of, too_long, not_built, valid, not_valid}
-use Rattle.lw_cli.proofs.Atoms.{letter_not_Valid}
+use Rattle.std.proofs.Common.{◌≤◌, length, IfOk, sym, subst, arith}
+use Rattle.lw_formula.specs.Tree.{tree_of}
+use Rattle.lw_cli.specs.Outcome.{file_limit, IsAnswer, too_long}
+use Rattle.lw_cli.proofs.Answered.{answer_of_decision, answer_of_refusal}
+use Rattle.lw_formula.specs.declared.logic.Logic.TheVariants.{K}
 use Rattle.lw_cli.proofs.prove.answer_to.Goals as goal
 
 pub returns-then-bytes-gt-FILE_LIMIT : goal.returns-then-bytes-gt-FILE_LIMIT
 returns-then-bytes-gt-FILE_LIMIT c = too_long (omega arith)
 
-pub returns-then-eq : goal.returns-then-eq
-returns-then-eq c =
-    let is : atom_of c.args.bytes.now ≡ Some verum = grind (arith, common_steps) in
-    valid verum (omega arith) is (λ m holds w below. tt)
+pub returns-in-Ok : goal.returns-in-Ok
+returns-in-Ok c =
+    let short : length c.args.bytes.now ≤ file_limit = omega arith in
+    subst (λ logic. IfOk c.decision.result (IsAnswer logic c.args.bytes.now)) (sym c.requires)
+    (answer_of_decision K c.args.bytes.now (tree_of c.in-Ok.form) c.decision.result short c.in-Ok.ensures.formula c.decision.ensures)
 
-pub returns-then-eq-2 : goal.returns-then-eq-2
-returns-then-eq-2 c =
-    let is : atom_of c.args.bytes.now ≡ Some falsum = grind (arith, common_steps) in
-    not_valid falsum (omega arith) is (falsum_not_Valid c.args.logic)
-
-pub returns-then-branch : goal.returns-then-branch
-returns-then-branch c =
-    let is : atom_of c.args.bytes.now ≡ Some (letter c.args.bytes.now) = grind (arith, common_steps) in
-    not_valid (letter c.args.bytes.now) (omega arith) is (letter_not_Valid c.args.logic c.args.bytes.now)
-
-pub returns : goal.returns
-returns c =
-    let is : atom_of c.args.bytes.now ≡ None = grind (arith, common_steps) in
-    not_built (omega arith) is
+pub returns-in-Err : goal.returns-in-Err
+returns-in-Err c =
+    let short : length c.args.bytes.now ≤ file_limit = omega arith in
+    answer_of_refusal c.args.logic c.args.bytes.now c.refusal.result short c.refusal.ensures

@@ -12,5 +12,5 @@ returns-in-Err-clause-sink_part g c = λ is. record {
     held = c.in-Ok.ensures.answer.1;
     outcome = record { answer = c.in-Ok.answer; is_answer = c.in-Ok.ensures.answer.2; line = refl; ending = refl };
   };
-  written = subst (λ piece. AddsPart (g.K.Sink.written c.args.sink.now) (g.K.Sink.written c.write.new.self) piece) (c.as_bytes.ensures.value ∙ c.line.ensures) c.in-Err.ensures.part;
+  written = subst (λ piece. AddsPart (g.K.Sink.written c.args.sink.now) (g.K.Sink.written c.write.new.self) piece) (c.as_bytes.ensures.value ∙ c.in-Ok-line.ensures) c.in-Err.ensures.part;
 }
