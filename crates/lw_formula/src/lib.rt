@@ -11,7 +11,7 @@ mod parts;
 mod sign;
 
 pub use chars::Chars;
-pub use form::{add_name, Form};
+pub use form::{Form, add_name};
 pub use laws::{
     no_logic_is_empty, substitution_keeps_validity, truth_depends_on_variables, truths_agree,
 };
