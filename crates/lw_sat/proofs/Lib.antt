@@ -1,4 +1,5 @@
 pub mod Rules
+pub mod Forks
 pub mod Branches
 pub mod Weights
 pub mod OpenBranch

@@ -1,3 +1,5 @@
 pub mod Claim
 pub mod Branch
+pub mod Fork
 pub mod Tableau
+pub mod Work
