@@ -1,14 +1,22 @@
+ghost use Rattle.std.specs.Prelude.{IfOk};
+ghost use Rattle.lw_pool.specs.Region.{IsLive, Grows};
+
 use crate::{FormId, Node, Pool};
 use lw_formula::{Form, Name};
 use std::alloc::Global;
 use std::test::Fail;
 
-fn variable(pool: &mut Pool, alloc: Global, name: &str) -> Result<FormId, Fail> {
+fn variable(pool: &mut Pool, alloc: Global, name: &str) -> Result<FormId, Fail>
+    ensures live { IfOk result (IsLive pool.new) }
+    ensures grows { Grows pool.old pool.new }
+{
     Ok(pool.make(Node::Var(Name::from_bytes(alloc, name.as_bytes())?))?)
 }
 
 /// `box p -> (p & q)`.
-fn implication(pool: &mut Pool, alloc: Global) -> Result<FormId, Fail> {
+fn implication(pool: &mut Pool, alloc: Global) -> Result<FormId, Fail>
+    ensures live { IfOk result (IsLive pool.new) }
+{
     let p = variable(pool, alloc, "p")?;
     let q = variable(pool, alloc, "q")?;
     let necessary = pool.make(Node::Nec(p))?;
@@ -57,7 +65,7 @@ fn each_call_answers_where_there_is_memory(rt: HostRuntime) -> Result<(), Fail> 
     assert_eq!(rt; names[1].as_bytes(), b"q".as_slice());
     assert_eq!(rt; pool.modal_depth(id)?, 1);
     // box q -> (q & q)
-    let q = FormId(1);
+    let q = variable(&mut pool, alloc, "q")?;
     let changed = pool.substitute(id, &names[0], q)?;
     let necessary = pool.make(Node::Nec(q))?;
     let both = pool.make(Node::And(q, q))?;
@@ -95,8 +103,7 @@ fn a_formula_that_is_shared_is_walked_once(rt: HostRuntime) -> Result<(), Fail> 
     for _ in 0..60 {
         top = pool.make(Node::And(top, top))?;
     }
-    let names = pool.variables(top)?;
-    let changed = pool.substitute(top, &names[0], q)?;
+    let changed = pool.substitute(top, &Name::from_bytes(alloc, b"p")?, q)?;
     assert_eq!(rt; pool.subformulas(changed)?.len(), 61);
     assert_eq!(rt; pool.count(), 122);
     Ok(())
