@@ -1,4 +1,4 @@
-ghost use Rattle.std.specs.Prelude.{◌≡◌, ◌≤◌, length, IsTrue, IfOk};
+ghost use Rattle.std.specs.Prelude.{◌≤◌, length, IsTrue, IfOk};
 ghost use Rattle.lw_formula.specs.Variables.{replace};
 ghost use Rattle.lw_pool.specs.Region.{tree_at, IsLive, IsAt, Grows};
 ghost use Rattle.lw_pool.specs.Walk.{AreOperandsDone};
