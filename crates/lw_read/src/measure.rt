@@ -7,7 +7,7 @@ ghost use Rattle.lw_read.specs.Measures.{IsMeasure, AreMeasures};
 
 use crate::lexeme::{Connective, rank, sign_text};
 use lw_pool::{FormId, Node, Pool};
-use std::alloc::AllocError;
+use std::alloc::{AllocError, Global};
 
 /// The length of a formula's text, or the greatest `usize` where it is longer, and how tightly it binds.
 #[derive(Clone, Copy)]
@@ -18,11 +18,11 @@ pub struct Measure {
 
 /// The length of the text of the formula at the id, or the greatest `usize` where it is longer. Each formula below it
 /// is measured once, however often it is shared. It fails for want of memory alone.
-pub fn text_length(pool: &Pool, id: FormId) -> Result<usize, AllocError>
+pub fn text_length(alloc: Global, pool: &Pool, id: FormId) -> Result<usize, AllocError>
     requires { IsLive pool.now id }
     ensures { IfOk result (λ len. len ≡ min (length (text_of (tree_at pool.now id))) usize.MAX) }
 {
-    let mut measures = Vec::with_capacity(pool.allocator(), id.0)?;
+    let mut measures = Vec::with_capacity(alloc, id.0)?;
     for at in 0..id.0 {
         let measure = node_measure(&measures, pool.node(FormId(at)));
         measures.push(measure)?;

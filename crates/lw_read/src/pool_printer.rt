@@ -9,7 +9,7 @@ use crate::lexeme::{Connective, rank, sign_text};
 use crate::measure::text_length;
 use crate::print_fault::PrintFault;
 use lw_pool::{FormId, Node, Pool};
-use std::alloc::AllocError;
+use std::alloc::{AllocError, Global};
 
 /// The most bytes of a printed text.
 pub const LONGEST_TEXT: usize = 1_048_576;
@@ -30,26 +30,31 @@ pub enum Piece {
 /// The text of the pool's formula, with the fewest brackets with which it reads back. `TextLimit` comes where it has
 /// more than 1,048,576 bytes, which is found without walking a formula twice that the pool shares; `Memory` comes for
 /// want of memory alone.
-pub fn print_formula(pool: &Pool, id: FormId) -> Result<Vec<u8>, PrintFault>
+pub fn print_formula(alloc: Global, pool: &Pool, id: FormId) -> Result<Vec<u8>, PrintFault>
     requires { IsLive pool.now id }
     ensures text { IfOk result (λ text. text.items ≡ text_of (tree_at pool.now id)) }
     ensures within { OnOk result (length (text_of (tree_at pool.now id)) ≤ LONGEST_TEXT) }
     ensures limit { IsErrOf result PrintFault.TextLimit → LONGEST_TEXT < length (text_of (tree_at pool.now id)) }
 {
-    let len = text_length(pool, id)?;
+    let len = text_length(alloc, pool, id)?;
     if len > LONGEST_TEXT {
         return Err(PrintFault::TextLimit);
     }
-    let mut out = Vec::new(pool.allocator());
-    write_formula(pool, id, &mut out)?;
+    let mut out = Vec::new(alloc);
+    write_formula(alloc, pool, id, &mut out)?;
     Ok(out)
 }
 
-fn write_formula(pool: &Pool, id: FormId, out: &mut Vec<u8>) -> Result<(), AllocError>
+fn write_formula(
+    alloc: Global,
+    pool: &Pool,
+    id: FormId,
+    out: &mut Vec<u8>,
+) -> Result<(), AllocError>
     requires { IsLive pool.now id }
     ensures { OnOk result (out.new.items ≡ out.old.items ++ text_of (tree_at pool.now id)) }
 {
-    let mut stack = Vec::new(pool.allocator());
+    let mut stack = Vec::new(alloc);
     stack.push(Piece::Operand(id, 0))?;
     while let Some(piece) = stack.pop() {
         write_piece(pool, piece, out, &mut stack)?;
@@ -182,7 +187,7 @@ mod tests {
             let mut pool = Pool::new(alloc);
             let id = pool.from_form(&form)?;
             let tree = print_form(alloc, &form)?;
-            let out = print_formula(&pool, id)?;
+            let out = print_formula(alloc, &pool, id)?;
             assert_eq!(&rt; out.as_slice(), tree.as_slice());
         }
         Ok(())
@@ -190,16 +195,20 @@ mod tests {
 
     #[test]
     fn a_text_over_the_limit_is_refused_by_its_length(rt: HostRuntime) -> Result<(), Fail> {
-        let form = read_formula(rt.alloc(), b"p")?;
-        let mut pool = Pool::new(rt.alloc());
+        let alloc = rt.alloc();
+        let form = read_formula(alloc, b"p")?;
+        let mut pool = Pool::new(alloc);
         let mut id = pool.from_form(&form)?;
         for level in 1..=60 {
             id = pool.make(Node::And(id, id))?;
             if level == 17 {
-                assert_eq!(&rt; print_formula(&pool, id)?.len(), 655_355);
+                assert_eq!(&rt; print_formula(alloc, &pool, id)?.len(), 655_355);
             }
             if level == 18 || level == 60 {
-                assert_eq!(&rt; print_formula(&pool, id).err(), Some(PrintFault::TextLimit));
+                assert_eq!(&rt;
+                    print_formula(alloc, &pool, id).err(),
+                    Some(PrintFault::TextLimit)
+                );
             }
         }
         Ok(())
