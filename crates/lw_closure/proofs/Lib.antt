@@ -1,0 +1,9 @@
+pub mod Numbers
+pub mod Inserting
+pub mod Lifting
+pub mod Mapped
+pub mod Growing
+pub mod Putting
+pub mod Guarding
+pub mod Operands
+pub mod Keeping

@@ -1,0 +1,5 @@
+use Rattle.lw_closure.proofs.Growing.{growth}
+use Rattle.lw_closure.proofs.laws.growth_keeps.Goals as goal
+
+pub returns : goal.returns
+returns c = growth

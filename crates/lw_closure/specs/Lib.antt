@@ -1,0 +1,7 @@
+pub mod Mapping
+pub mod Table
+pub mod Items
+pub mod Unclosed
+pub mod Keeps
+pub mod Building
+pub mod Laws

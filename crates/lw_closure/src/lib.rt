@@ -1,0 +1,16 @@
+//! The numbered signed formulas over which the searches work.
+#![tactic(auto)]
+
+mod build;
+mod entries;
+mod entry;
+mod fault;
+mod guard;
+mod laws;
+mod numbering;
+mod table;
+
+pub use build::closure;
+pub use fault::{ClosureFault, SUBFORMULA_LIMIT};
+pub use laws::{growth_keeps, items_are_formulas};
+pub use table::Closure;
