@@ -1,0 +1,6 @@
+pub mod Grown
+pub mod Sets
+pub mod Kept
+pub mod Subproofs
+pub mod Outcomes
+pub mod Verdicts

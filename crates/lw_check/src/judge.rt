@@ -1,0 +1,154 @@
+ghost use Rattle.std.specs.Prelude.{◌≡◌, ◌↔◌, ◌<◌, ◌∷◌, [], List, length, slice_get, IfOk, OnOk};
+ghost use Rattle.lw_formula.specs.Formula.{Formula};
+ghost use Rattle.lw_formula.specs.Validity.{Valid};
+ghost use Rattle.lw_pool.specs.Region.{IsLive, Grows, tree_at, AreBothBelow};
+ghost use Rattle.lw_proof.specs.Tree.{subs_of, lines};
+ghost use Rattle.lw_proof.specs.System.{trees};
+ghost use Rattle.lw_proof.specs.Derivation.{plus, Proves};
+ghost use Rattle.lw_proof.specs.Pooled.{proof_at, IsProofLive};
+ghost use Rattle.lw_check.specs.Judgement.{IsVerdict, IsAccepted};
+ghost use Rattle.lw_check.specs.Walk.{set_of, side_at, AreLive, Tells, TellsAll};
+
+use crate::premise::{add_side, left, stepped};
+use crate::step::refusal;
+use crate::verdict::Verdict;
+use crate::walked::Walked;
+use lw_formula::{Logic, Parts, Sign};
+use lw_pool::{FormId, Pool, SignedId};
+use lw_proof::Proof;
+use std::alloc::AllocError;
+
+/// Whether the proof proves the goal in the logic, and else the first step that breaks its rule, with the first reason.
+/// It fails for want of memory alone. After every answer the pool has what it had, and perhaps formulas above.
+pub fn check(
+    pool: &mut Pool,
+    logic: Logic,
+    goal: FormId,
+    proof: &Proof,
+) -> Result<Verdict, AllocError>
+    requires goal { IsLive pool.old goal }
+    requires proof { IsProofLive pool.old proof.now }
+    ensures verdict { IfOk result (IsVerdict logic (tree_at pool.old goal) (proof_at pool.old proof.now)) }
+    ensures accepted { IfOk result (λ v. IsAccepted v ↔ Proves logic (proof_at pool.old proof.now) (tree_at pool.old goal)) }
+    ensures valid { IfOk result (λ v. IsAccepted v → Valid logic (tree_at pool.old goal)) }
+    ensures grows { Grows pool.old pool.new }
+{
+    let cuts = pool.subformula_table(goal)?;
+    let mut items = Vec::new(*cuts.allocator());
+    items.push(SignedId {
+        sign: Sign::F,
+        form: goal,
+    })?;
+    let walked = walk(pool, logic, &cuts, &mut items, proof, 1)?;
+    Ok(walked.verdict())
+}
+
+/// Walks over the proof, which is to close the items, and counts its first step as `step`. The marked formulas may be
+/// cut.
+#[cycle(walk)]
+fn walk(
+    pool: &mut Pool,
+    logic: Logic,
+    cuts: &[bool],
+    items: &mut Vec<SignedId>,
+    proof: &Proof,
+    step: usize,
+) -> Result<Walked, AllocError>
+    requires items { AreLive pool.old items.old.items }
+    requires proof { IsProofLive pool.old proof.now }
+    ensures told { IfOk result (Tells logic pool.new cuts.now (λ ts. set_of ts items.old.items) proof.now step) }
+    ensures same { OnOk result (items.new.items ≡ items.old.items) }
+    ensures grows { Grows pool.old pool.new }
+{
+    if let Some(why) = refusal(pool, logic, cuts, items, proof) {
+        return Ok(Walked::Broken { step, why });
+    }
+    let next = step.saturating_add(1);
+    match left(pool, proof.rule(), proof.principal()) {
+        Parts::Nothing => Ok(Walked::Through { next }),
+        Parts::One(first, second) => {
+            let part = child(proof, 0);
+            extended(pool, logic, cuts, items, (first, second), part, next)
+        }
+        Parts::Two(one, other) => split(pool, logic, cuts, items, (one, other), proof, next),
+        Parts::Nu(part) => {
+            extended(
+                pool,
+                logic,
+                cuts,
+                items,
+                (part, None),
+                child(proof, 0),
+                next,
+            )
+        }
+        Parts::Pi(part) => {
+            let mut left = stepped(pool, logic, items, proof.principal(), part)?;
+            walk(pool, logic, cuts, &mut left, child(proof, 0), next)
+        }
+    }
+}
+
+/// Walks over the first two subproofs of the proof, of which each is to close the items with one of the sides.
+#[cycle(walk)]
+fn split(
+    pool: &mut Pool,
+    logic: Logic,
+    cuts: &[bool],
+    items: &mut Vec<SignedId>,
+    sides: ((SignedId, Option<SignedId>), (SignedId, Option<SignedId>)),
+    proof: &Proof,
+    step: usize,
+) -> Result<Walked, AllocError>
+    requires items { AreLive pool.old items.old.items }
+    requires one { AreBothBelow (length pool.old) sides.0 }
+    requires other { AreBothBelow (length pool.old) sides.1 }
+    requires proof { IsProofLive pool.old proof.now }
+    requires count { length (subs_of proof.now) ≡ 2 }
+    ensures told { IfOk result (TellsAll logic pool.new cuts.now (λ ts. plus trees (side_at ts sides.0) (set_of ts items.old.items) ∷ plus trees (side_at ts sides.1) (set_of ts items.old.items) ∷ []) proof.now step) }
+    ensures same { OnOk result (items.new.items ≡ items.old.items) }
+    ensures grows { Grows pool.old pool.new }
+{
+    let (one, other) = sides;
+    match extended(pool, logic, cuts, items, one, child(proof, 0), step)? {
+        Walked::Through { next } => {
+            extended(pool, logic, cuts, items, other, child(proof, 1), next)
+        }
+        Walked::Broken { step, why } => Ok(Walked::Broken { step, why }),
+    }
+}
+
+/// Walks over the proof, which is to close the items with one side.
+#[cycle(walk)]
+fn extended(
+    pool: &mut Pool,
+    logic: Logic,
+    cuts: &[bool],
+    items: &mut Vec<SignedId>,
+    side: (SignedId, Option<SignedId>),
+    proof: &Proof,
+    step: usize,
+) -> Result<Walked, AllocError>
+    requires items { AreLive pool.old items.old.items }
+    requires side { AreBothBelow (length pool.old) side }
+    requires proof { IsProofLive pool.old proof.now }
+    ensures told { IfOk result (Tells logic pool.new cuts.now (λ ts. plus trees (side_at ts side) (set_of ts items.old.items)) proof.now step) }
+    ensures same { OnOk result (items.new.items ≡ items.old.items) }
+    ensures grows { Grows pool.old pool.new }
+{
+    let count = items.len();
+    add_side(items, side)?;
+    let walked = walk(pool, logic, cuts, items, proof, step)?;
+    items.truncate(count);
+    Ok(walked)
+}
+
+/// The i-th subproof of the first step, from 0.
+fn child(proof: &Proof, i: usize) -> &Proof
+    requires { i < length (subs_of proof.now) }
+    ensures sub { slice_get (subs_of proof.now) i ≡ Some result.now }
+    ensures smaller { lines result.now < lines proof.now }
+    ensures live { (ts : List Formula) → IsProofLive ts proof.now → IsProofLive ts result.now }
+{
+    proof.sub(i)
+}

@@ -1,0 +1,151 @@
+ghost use Rattle.std.specs.Prelude.{◌≡◌, ◌<◌, length, IsTrue, IfNone};
+ghost use Rattle.lw_formula.specs.Components as components;
+ghost use Rattle.lw_formula.specs.Signed.{Signed, SignedSet};
+ghost use Rattle.lw_formula.specs.Signs.{opposite};
+ghost use Rattle.lw_pool.specs.Region as region;
+ghost use Rattle.lw_pool.specs.Region.{IsLive, signed_at};
+ghost use Rattle.lw_proof.specs.Tree.{rule_of, principal_of, subs_of};
+ghost use Rattle.lw_proof.specs.System.{trees};
+ghost use Rattle.lw_proof.specs.Break as breaks;
+ghost use Rattle.lw_proof.specs.Pooled.{IsProofLive};
+ghost use Rattle.lw_check.specs.Walk.{set_of, AreLive};
+
+use lw_formula::{Logic, Parts, Sign};
+use lw_pool::{FormId, Node, Pool, SignedId};
+use lw_proof::{Proof, Rule, Why};
+
+/// Why the first step of the proof breaks its rule, where the items are to be closed and the marked formulas may be
+/// cut.
+pub(crate) fn refusal(
+    pool: &Pool,
+    logic: Logic,
+    cuts: &[bool],
+    items: &[SignedId],
+    proof: &Proof,
+) -> Option<Why>
+    requires items { AreLive pool.now items.now }
+    requires proof { IsProofLive pool.now proof.now }
+    ensures reason { (C : SignedSet) → region.is_marked cuts.now (principal_of proof.now).form.0 ≡ C (signed_at pool.now (principal_of proof.now)) → result ≡ breaks.reason trees C logic (set_of pool.now items.now) (rule_of proof.now) (signed_at pool.now (principal_of proof.now)) (length (subs_of proof.now)) }
+    ensures fits { IfNone result (IsTrue (breaks.fits trees (rule_of proof.now) (signed_at pool.now (principal_of proof.now)))) }
+    ensures arity { IfNone result (length (subs_of proof.now) ≡ breaks.arity (rule_of proof.now)) }
+{
+    let (rule, item) = (proof.rule(), proof.principal());
+    if !in_logic(logic, rule) {
+        return Some(Why::Logic);
+    }
+    if !fits(pool, rule, item) {
+        return Some(Why::Shape);
+    }
+    if proof.count() != arity(rule) {
+        return Some(Why::Arity);
+    }
+    if !present(pool, items, rule, item) {
+        return Some(Why::Missing);
+    }
+    if !allowed(cuts, rule, item.form) {
+        return Some(Why::Goal);
+    }
+    None
+}
+
+/// Whether the rule is one of the logic.
+fn in_logic(logic: Logic, rule: Rule) -> bool
+    ensures { result ≡ breaks.in_logic logic rule }
+{
+    match rule {
+        Rule::Refl => !matches!(logic, Logic::K | Logic::GL),
+        Rule::Cut => matches!(logic, Logic::S5),
+        _ => true,
+    }
+}
+
+/// Whether the rule takes such a principal.
+fn fits(pool: &Pool, rule: Rule, item: SignedId) -> bool
+    requires { IsLive pool.now item.form }
+    ensures { result ≡ breaks.fits trees rule (signed_at pool.now item) }
+{
+    let parts = pool.parts(item);
+    match rule {
+        Rule::Close => matches!(item.sign, Sign::T),
+        Rule::Absurd => is_absurd(pool, item),
+        Rule::One => matches!(parts, Parts::One(_, _)),
+        Rule::Two => matches!(parts, Parts::Two(_, _)),
+        Rule::Refl => matches!(parts, Parts::Nu(_)),
+        Rule::Step => matches!(parts, Parts::Pi(_)),
+        Rule::Cut => {
+            matches!(item.sign, Sign::T) && matches!(parts, Parts::Nu(_) | Parts::Pi(_))
+        }
+    }
+}
+
+/// Whether it is `T false` or `F true`.
+fn is_absurd(pool: &Pool, item: SignedId) -> bool
+    requires { IsLive pool.now item.form }
+    ensures { result ≡ components.is_absurd (signed_at pool.now item) }
+{
+    matches!(
+        (item.sign, pool.node(item.form)),
+        (Sign::T, Node::Bot) | (Sign::F, Node::Top)
+    )
+}
+
+/// How many premises the rule has.
+fn arity(rule: Rule) -> usize
+    ensures { result ≡ breaks.arity rule }
+{
+    match rule {
+        Rule::Close | Rule::Absurd => 0,
+        Rule::One | Rule::Refl | Rule::Step => 1,
+        Rule::Two | Rule::Cut => 2,
+    }
+}
+
+/// Whether the items have what must be there.
+fn present(pool: &Pool, items: &[SignedId], rule: Rule, item: SignedId) -> bool
+    requires items { AreLive pool.now items.now }
+    requires item { IsLive pool.now item.form }
+    ensures { result ≡ breaks.present trees (set_of pool.now items.now) rule (signed_at pool.now item) }
+{
+    match rule {
+        Rule::Close => has(pool, items, item) && has(pool, items, flipped(item)),
+        Rule::Cut => true,
+        _ => has(pool, items, item),
+    }
+}
+
+/// Whether the item is one of these. Ids of one pool are equal exactly where their formulas are.
+fn has(pool: &Pool, items: &[SignedId], item: SignedId) -> bool
+    requires items { AreLive pool.now items.now }
+    requires item { IsLive pool.now item.form }
+    ensures { result ≡ set_of pool.now items.now (signed_at pool.now item) }
+{
+    prove!(item.form.0 < pool.count());
+    items.contains(&item)
+}
+
+/// The same formula under the other sign.
+pub(crate) fn flipped(item: SignedId) -> SignedId
+    ensures { result ≡ record { sign = opposite item.sign; form = item.form } }
+{
+    SignedId {
+        sign: item.sign.flip(),
+        form: item.form,
+    }
+}
+
+/// Whether a cut, if the rule is one, is on a formula that is marked.
+fn allowed(cuts: &[bool], rule: Rule, form: FormId) -> bool
+    ensures { (C : SignedSet) (s : Signed) → region.is_marked cuts.now form.0 ≡ C s → result ≡ breaks.in_goal trees C rule s }
+{
+    match rule {
+        Rule::Cut => is_marked(cuts, form),
+        _ => true,
+    }
+}
+
+/// Whether the formula is marked. One above all marks isn't.
+fn is_marked(cuts: &[bool], form: FormId) -> bool
+    ensures { result ≡ region.is_marked cuts.now form.0 }
+{
+    form.0 < cuts.len() && cuts[form.0]
+}
