@@ -1,0 +1,7 @@
+use Rattle.std.proofs.Common.{◌≡◌}
+use Rattle.lw_counter.specs.Relation.{SetsBits}
+use Rattle.lw_counter.proofs.Squares.{Loops}
+use Rattle.lw_counter.proofs.relation.Relation.add_loops.Given as goal
+
+abbrev pub invariant-loop-at : goal.invariant-loop-at
+invariant-loop-at l = record { end : l.at-end ≡ l.fn.self.count; set : SetsBits l.fn.self l.self (Loops l.at) }

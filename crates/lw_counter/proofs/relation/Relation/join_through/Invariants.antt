@@ -1,0 +1,7 @@
+use Rattle.std.proofs.Common.{◌≡◌}
+use Rattle.lw_counter.specs.Relation.{SetsBits}
+use Rattle.lw_counter.proofs.Squares.{Through}
+use Rattle.lw_counter.proofs.relation.Relation.join_through.Given as goal
+
+abbrev pub invariant-loop-from : goal.invariant-loop-from
+invariant-loop-from l = record { end : l.from-end ≡ l.fn.self.count; set : SetsBits l.fn.self l.self (Through l.fn.self l.middle l.from) }
