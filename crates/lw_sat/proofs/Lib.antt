@@ -1,5 +1,15 @@
 pub mod Rules
-pub mod Forks
 pub mod Branches
 pub mod Weights
 pub mod OpenBranch
+pub mod Listing
+pub mod Lacking
+pub mod Using
+pub mod Leading
+pub mod Pouring
+pub mod Boards
+pub mod Folding
+pub mod Finding
+pub mod Unwinding
+pub mod Rounding
+pub mod Coursing

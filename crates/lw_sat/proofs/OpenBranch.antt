@@ -11,9 +11,10 @@ use Rattle.lw_formula.specs.Class.{Class}
 use Rattle.lw_formula.specs.Validity.{Valid}
 use Rattle.lw_formula.specs.Signed.{HoldsSigned}
 use Rattle.lw_formula.proofs.Members.{Contains-nil, Contains-head, Contains-tail, Contains-cons_cases, All-members, AreDistinct-nil, AreDistinct-cons}
-use Rattle.lw_sat.specs.declared.tableau.Literal.{Literal}
+use Rattle.lw_sat.specs.declared.branch.Literal.{Literal}
+use Rattle.lw_sat.specs.declared.branch.Branch.{Branch}
 use Rattle.lw_sat.specs.Claim.{signed_of}
-use Rattle.lw_sat.specs.Branch.{Branch, HoldsBranch, literal_of}
+use Rattle.lw_sat.specs.Branch.{HoldsBranch, literal_of}
 use Rattle.lw_sat.proofs.Rules.{either}
 use Rattle.lw_sat.proofs.Branches.{IsTableau, IsTableau-last, IsTableau-none}
 
@@ -123,17 +124,17 @@ literal-holds ls apart l h F e = λ fact.
     cc
 
 -- so the branch holds there
-HoldsBranch-model : (b : Branch) → AreApart b.literals → b.claims ≡ [] → HoldsBranch (model_of b.literals) 0 b
-HoldsBranch-model b apart e = record {
-  claims = subst (All (λ c. HoldsSigned (model_of b.literals) 0 (signed_of c))) (sym e) (All-nil (λ c. HoldsSigned (model_of b.literals) 0 (signed_of c)));
-  literals = All-members (λ l. HoldsSigned (model_of b.literals) 0 (literal_of l)) b.literals (λ l h. literal-holds b.literals apart l h l.sign refl);
+HoldsBranch-model : (b : Branch) → b.claims.items ≡ [] → HoldsBranch (model_of b.literals.items) 0 b
+HoldsBranch-model b e = record {
+  claims = subst (All (λ c. HoldsSigned (model_of b.literals.items) 0 (signed_of c))) (sym e) (All-nil (λ c. HoldsSigned (model_of b.literals.items) 0 (signed_of c)));
+  literals = All-members (λ l. HoldsSigned (model_of b.literals.items) 0 (literal_of l)) b.literals.items (λ l h. literal-holds b.literals.items b.distinct l h l.sign refl);
 }
 
 -- a tableau for the formula as false, with a branch without claims: the formula isn't valid
-pub not_Valid-open : (a : Formula) (old : List Branch) (b : Branch) → IsTableau (F, a) (old ++ b ∷ []) → AreApart b.literals → b.claims ≡ [] → ¬ Valid K a
-not_Valid-open a old b tableau apart done valid =
-    IsTableau-last (F, a) old b tableau (model_of b.literals) 0 (HoldsBranch-model b apart done)
-    (valid (model_of b.literals) (model_of-Class b.literals apart) 0 (omega arith))
+pub not_Valid-open : (a : Formula) (old rest : List Branch) (last : Branch) → IsTableau (F, a) old → old ≡ rest ++ last ∷ [] → last.claims.items ≡ [] → ¬ Valid K a
+not_Valid-open a old rest last tableau e done valid =
+    IsTableau-last (F, a) old rest last tableau e (model_of last.literals.items) 0 (HoldsBranch-model last done)
+    (valid (model_of last.literals.items) (model_of-Class last.literals.items last.distinct) 0 (omega arith))
 
 -- a tableau for the formula as false without branches: the formula is valid
 pub Valid-closed : (a : Formula) → IsTableau (F, a) [] → Valid K a

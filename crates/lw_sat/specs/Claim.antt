@@ -1,6 +1,6 @@
 -- What a claim of the program says: a signed formula.
-use Rattle.std.specs.Prelude.{ℕ, ◌+◌, Option, Some, None, List, ◌∷◌}
-use Rattle.std.specs.Option.{option_map, option_to_list}
+use Rattle.std.specs.Prelude.{ℕ, ◌+◌, Option, Some, None}
+use Rattle.std.specs.Option.{option_map}
 use Rattle.lw_formula.specs.declared.parts.Parts.{Parts}
 use Rattle.lw_formula.specs.declared.parts.Parts.TheVariants.{Nothing, One, Two, Nu, Pi}
 use Rattle.lw_formula.specs.Formula.{nodes}
@@ -20,10 +20,6 @@ signed_alone c = (signed_of c, None)
 -- one claim or two as signed formulas
 abbrev pub signed_side : Claim × Option Claim → Signed × Option Signed
 signed_side (c, d) = (signed_of c, option_map signed_of d)
-
--- the claims themselves
-abbrev pub listed : Claim × Option Claim → List Claim
-listed (c, d) = c ∷ option_to_list d
 
 -- the components as signed formulas
 abbrev pub signed_parts : Parts Claim → Parts Signed

@@ -1,5 +1,10 @@
 pub mod Claim
 pub mod Branch
-pub mod Fork
 pub mod Tableau
-pub mod Work
+pub mod Sets
+pub mod Closing
+pub mod Moves
+pub mod Path
+pub mod Working
+pub mod Saturated
+pub mod Course

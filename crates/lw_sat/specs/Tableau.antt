@@ -1,23 +1,28 @@
--- The branches of a tableau, as the program keeps them.
-use Rattle.std.specs.Prelude.{◌≡◌, Bool, true, false, List, [], ◌∷◌, ◌++◌, map, drop}
-use Rattle.lw_sat.specs.declared.tableau.Tableau.{Tableau}
-use Rattle.lw_sat.specs.Branch.{Branch}
-use Rattle.lw_sat.specs.Fork.{branch_of}
+-- A tableau as the list of its branches (Smullyan, First-Order Logic, chapter II).
+use Rattle.std.specs.Prelude.{ℕ, ◌+◌, ◌*◌, suc, zero, ◌⊎◌, ◌↔◌, Any, List, Option, sum_by}
+use Rattle.lw_formula.specs.FiniteModel.{FiniteModel}
+use Rattle.lw_formula.specs.Signed.{Signed}
+use Rattle.lw_sat.specs.declared.branch.Branch.{Branch}
+use Rattle.lw_sat.specs.Claim.{HoldsSide, side_nodes}
+use Rattle.lw_sat.specs.Branch.{HoldsBranch, nodes_left}
 
--- the branch that is worked on
-abbrev pub top : Tableau → Branch
-top t = record { claims = drop t.next t.claims.items; literals = t.literals.items }
+-- some branch holds at the world
+abbrev pub HoldsSome : FiniteModel → ℕ → List Branch → Type 0
+HoldsSome m w branches = Any (HoldsBranch m w) branches
 
--- the branches that wait
-abbrev pub waiting : Tableau → List Branch
-waiting t = map (branch_of t.claims.items t.literals.items) t.forks.items
+-- the new branches do for the old ones and for the branch b with one signed formula or two more
+pub record Extends (old : List Branch) (b : Branch) (side : Signed × Option Signed) (new : List Branch) : Type 0 where
+  pub holds : (m : FiniteModel) (w : ℕ) → HoldsSome m w new ↔ (HoldsSome m w old ⊎ (HoldsSide m w side × HoldsBranch m w b))
 
--- the branch that is worked on gives way to the last that waits, or none waits
-abbrev pub GoesBack : Tableau → Bool → Tableau → Type 0
-GoesBack old true new = waiting old ≡ waiting new ++ top new ∷ []
-GoesBack old false new = waiting old ≡ []
+-- three to the n: two branches of fewer nodes weigh less than one
+abbrev pub weight : ℕ → ℕ
+weight zero = 1
+weight (suc n) = 3 * weight n
 
--- the branches that are left, where any is
-abbrev pub branches_left : Bool → Tableau → List Branch
-branches_left true t = waiting t ++ top t ∷ []
-branches_left false t = []
+-- the work that a branch leaves with one signed formula or two more
+abbrev pub work_with : Branch → Signed × Option Signed → ℕ
+work_with b side = weight (nodes_left b + side_nodes side)
+
+-- the work that the branches leave
+abbrev pub work_left : List Branch → ℕ
+work_left branches = sum_by (λ b. weight (nodes_left b)) branches

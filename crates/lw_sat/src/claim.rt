@@ -12,9 +12,6 @@ pub struct Claim<'a> {
     ghost propositional: { depth (tree_of form.now) ≡ 0 },
 }
 
-/// One claim, or two.
-pub type Side<'a> = (Claim<'a>, Option<Claim<'a>>);
-
 impl<'a> Claim<'a> {
     ghost use Rattle.lw_formula.specs.Components.{parts_of, is_absurd};
     ghost use Rattle.lw_sat.specs.Claim.{signed_of, signed_parts};

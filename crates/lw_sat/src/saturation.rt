@@ -1,56 +1,203 @@
-ghost use Rattle.std.specs.Prelude.{◌≡◌, ◌+◌, ◌<◌, ◌↔◌, IsTrue, IfOk};
-ghost use Rattle.lw_formula.specs.declared.logic.Logic.TheVariants.{K};
-ghost use Rattle.lw_formula.specs.Formula.{depth};
-ghost use Rattle.lw_formula.specs.Tree.{tree_of};
-ghost use Rattle.lw_formula.specs.Validity.{Valid};
-ghost use Rattle.lw_sat.specs.Claim.{signed_alone};
-ghost use Rattle.lw_sat.specs.Tableau.{top, waiting, branches_left};
-ghost use Rattle.lw_sat.specs.Work.{Extends, work_with, work_left};
+// Saturations as callers have them.
+ghost use Rattle.std.specs.Prelude.{◌≡◌, ℕ, ◌+◌, ◌*◌, ◌<◌, ◌≤◌, Bool, true, false, IsTrue, All, IfNone, IfOk, IsErr, OnErr, OnOk, [], ◌∷◌, length, max};
+ghost use Rattle.lw_proof.specs.Derivation.{has_cut, is_modal_part};
+ghost use Rattle.lw_proof.specs.Lean.{steps};
+ghost use Rattle.lw_proof.specs.System.{Set};
+ghost use Rattle.lw_closure.specs.Table.{entry_at, item_count};
+ghost use Rattle.lw_sat.specs.Closing.{Closes};
+ghost use Rattle.lw_sat.specs.Moves.{Survives};
+ghost use Rattle.lw_sat.specs.Path.{most_steps, IsBoard};
+ghost use Rattle.lw_sat.specs.Saturated.{every, fold_steps, room, FoldsAll, IsAt};
+ghost use Rattle.lw_sat.specs.Course.{is_ready, label, state_from, steps_held, waits, work_left, FoundFits, FoundSteps, IsFailed, IsUnderWay, RunFits};
+ghost use Rattle.lw_sat.specs.Sets.{adding, among};
 
-use crate::claim::Claim;
-use crate::tableau::Tableau;
-use lw_formula::{Form, Parts};
+use crate::board::Board;
+use crate::frame::Frame;
+use crate::grow::branch;
+use crate::round::{Round, advance};
+use crate::unwind::unwind;
+use lw_closure::Closure;
+use lw_formula::Logic;
+use lw_proof::{Proof, Rule};
 use std::alloc::{AllocError, Global};
+use std::mem;
 
-/// Whether a formula without `box` and `dia` is valid in K, which is whether it is a tautology: its signed tableau is
-/// worked off until a branch stays open or none is left. It fails for want of memory alone.
-pub fn saturated(alloc: Global, form: &Form) -> Result<bool, AllocError>
-    requires { depth (tree_of form.now) ≡ 0 }
-    ensures { IfOk result (λ valid. IsTrue valid ↔ Valid K (tree_of form.now)) }
-{
-    let mut tableau = Tableau::root(alloc, Claim::false_of(form))?;
-    while let Some(claim) = tableau.claim() {
-        if !extend(&mut tableau, claim)? {
-            return Ok(true);
-        }
-    }
-    Ok(false)
+/// What a saturation comes to next.
+#[derive(Drop)]
+pub enum Found {
+    /// An unclosed label waits.
+    Unclosed,
+    /// The seed is closed by this proof.
+    Closed(Proof),
 }
 
-// Works off the claim, and says whether a branch is left: the claim may close its branch, and may fork it.
-fn extend<'a>(tableau: &mut Tableau<'a>, claim: Claim<'a>) -> Result<bool, AllocError>
-    ensures extends { IfOk result (λ more.
-        Extends (waiting tableau.old) (top tableau.old) (signed_alone claim.entry) (branches_left more tableau.new)) }
-    ensures work { let work = work_with (top tableau.old) (signed_alone claim.entry) in
-        IfOk result (λ more. work_left (branches_left more tableau.new) < work_left (waiting tableau.old) + work) }
+/// How far a saturation has come.
+#[derive(Drop)]
+pub(crate) enum State {
+    /// A label is under work.
+    Working,
+    /// An unclosed label waits.
+    Waiting,
+    /// The seed is closed.
+    Closed(Proof),
+    /// That was answered.
+    Answered,
+    /// Memory ran out.
+    Failed,
+}
+
+/// The saturation of a seed: the unclosed labels that come of it one after another, until all are refused and the seed
+/// is closed.
+#[derive(Drop)]
+pub struct Saturation {
+    pub(crate) frames: Vec<Frame>,
+    pub(crate) board: Board,
+    pub(crate) state: State,
+}
+
+// Goes on until a label is unclosed, or gives the proof that closes the seed.
+fn run(
+    alloc: Global,
+    closure: &Closure,
+    frames: &mut Vec<Frame>,
+    board: &mut Board,
+) -> Result<Option<Proof>, AllocError>
+    requires { (X : Set ℕ) × IsAt closure.now X every frames.old.items board.old }
+    ensures found { (X : Set ℕ) (test : Set ℕ → Bool) → Survives closure.now test → IsAt closure.now X test frames.old.items board.old → IfOk result (RunFits closure.now X test frames.new.items board.new) }
+    ensures falls { IfOk result (λ found. IfNone found (room board.new ≤ room board.old)) }
+    ensures steps { IfOk result (λ found. fold_steps frames.new.items found ≤ most_steps frames.old.items) }
 {
-    match claim.parts() {
-        Parts::Nothing => {
-            if tableau.settle(claim)? {
-                Ok(true)
-            } else {
-                tableau.back()
+    loop {
+        match advance(alloc, closure, frames, board)? {
+            Round::Moved => {}
+            Round::Quiet => return Ok(None),
+            Round::Done(proof) => return Ok(Some(proof)),
+        }
+    }
+}
+
+// The state after all frames were taken off, or after a label came under work.
+fn state_after(found: Option<Proof>) -> State
+    ensures { result ≡ state_from found }
+{
+    match found {
+        None => State::Working,
+        Some(proof) => State::Closed(proof),
+    }
+}
+
+impl Saturation {
+    /// A saturation of the seed, over a closure that was made for this logic. No label waits.
+    pub fn start(
+        alloc: Global,
+        closure: &Closure,
+        logic: Logic,
+        seed: &[usize],
+    ) -> Result<Saturation, AllocError>
+        requires logic { closure.now.logic ≡ logic }
+        requires items { All (λ item. item < item_count closure.now) seed.now }
+        ensures under { (test : Set ℕ → Bool) → IsTrue (test (among seed.now)) → IfOk result (IsUnderWay closure.now (among seed.now) test) }
+        ensures ready { IfOk result (λ saturation. IsTrue (is_ready saturation)) }
+        ensures steps { IfOk result (λ saturation. steps_held saturation ≡ 0) }
+    {
+        let mut board = Board::new(alloc, 2 * closure.count())?;
+        for item in seed {
+            board.add_side((*item, None));
+        }
+        Ok(Saturation {
+            frames: Vec::new(alloc),
+            board,
+            state: State::Working,
+        })
+    }
+
+    /// Goes on until an unclosed label waits or the seed is closed. Where memory runs out, no label waits, and each
+    /// later call fails too. No label may wait, and `Closed` may not have been answered.
+    pub fn next(&mut self, closure: &Closure) -> Result<Found, AllocError>
+        requires under { (X : Set ℕ) × IsUnderWay closure.now X every self.old }
+        requires ready { IsTrue (is_ready self.old) }
+        ensures found { (X : Set ℕ) (test : Set ℕ → Bool) → Survives closure.now test → IsUnderWay closure.now X test self.old → IfOk result (FoundFits closure.now X test self.new) }
+        ensures steps { IfOk result (FoundSteps (steps_held self.old) self.new) }
+        ensures work { work_left self.new ≤ work_left self.old }
+        ensures failed { OnErr result (IsFailed self.new) }
+        ensures still { IsFailed self.old → IsErr result }
+    {
+        let alloc = *self.frames.allocator();
+        match mem::replace(&mut self.state, State::Failed) {
+            State::Working => match run(alloc, closure, &mut self.frames, &mut self.board)? {
+                None => {
+                    self.state = State::Waiting;
+                    Ok(Found::Unclosed)
+                }
+                Some(proof) => {
+                    self.state = State::Answered;
+                    Ok(Found::Closed(proof))
+                }
+            },
+            State::Closed(proof) => {
+                self.state = State::Answered;
+                Ok(Found::Closed(proof))
             }
+            _ => Err(AllocError),
         }
-        Parts::One(first, second) => {
-            tableau.assume((first, second))?;
-            Ok(true)
-        }
-        Parts::Two(left, right) => {
-            tableau.fork(right)?;
-            tableau.assume(left)?;
-            Ok(true)
-        }
-        Parts::Nu(_) | Parts::Pi(_) => unreachable!(),
+    }
+
+    /// Whether the label that waits has the item.
+    pub fn has(&self, item: usize) -> bool
+        requires waits { IsTrue (waits self.now) }
+        requires board { IsBoard self.now.board }
+        requires inside { item < self.now.board.bits }
+        ensures { result ≡ label self.now item }
+    {
+        self.board.has(item)
+    }
+
+    /// Gives up the label that waits, which the proof closes. No label waits then. Where memory runs out, each later
+    /// `next` fails.
+    pub fn refuse(&mut self, closure: &Closure, proof: Proof) -> Result<(), AllocError>
+        requires under { (X : Set ℕ) × IsUnderWay closure.now X every self.old }
+        requires waits { IsTrue (waits self.old) }
+        requires closes { Closes closure.now (label self.old) proof }
+        ensures under { (X : Set ℕ) (test : Set ℕ → Bool) → IsUnderWay closure.now X test self.old → IsUnderWay closure.now X test self.new }
+        ensures ready { IsTrue (is_ready self.new) }
+        ensures steps { OnOk result (steps_held self.new ≤ max (steps_held self.old) (steps proof)) }
+        ensures work { work_left self.new < work_left self.old }
+        ensures failed { OnErr result (IsFailed self.new) }
+    {
+        let alloc = *self.frames.allocator();
+        self.state = State::Failed;
+        let found = unwind(alloc, closure, &mut self.frames, &mut self.board, proof)?;
+        self.state = state_after(found);
+        Ok(())
+    }
+
+    /// Splits the label that waits on a modal formula of which it has neither item: it makes a cut. No label waits
+    /// then. Where memory runs out, each later `next` fails.
+    pub fn split(&mut self, closure: &Closure, formula: usize) -> Result<(), AllocError>
+        requires under { (X : Set ℕ) × IsUnderWay closure.now X every self.old }
+        requires logic { IsTrue (has_cut closure.now.logic) }
+        requires waits { IsTrue (waits self.old) }
+        requires there { formula < length closure.now.forms }
+        requires modal { IsTrue (is_modal_part (entry_at closure.now (2 * formula)).parts) }
+        requires positive { label self.old (2 * formula) ≡ false }
+        requires negative { label self.old (2 * formula + 1) ≡ false }
+        ensures under { (X : Set ℕ) (test : Set ℕ → Bool) → IsTrue (test (adding ((2 * formula) ∷ []) (label self.old))) → IsTrue (test (adding ((2 * formula + 1) ∷ []) (label self.old))) → IsUnderWay closure.now X test self.old → IsUnderWay closure.now X test self.new }
+        ensures ready { IsTrue (is_ready self.new) }
+        ensures steps { OnOk result (steps_held self.new ≤ steps_held self.old) }
+        ensures work { work_left self.new < work_left self.old }
+        ensures failed { OnErr result (IsFailed self.new) }
+    {
+        let item = 2 * formula;
+        self.state = State::Failed;
+        let frame = branch(
+            &mut self.board,
+            Rule::Cut,
+            item,
+            (item, None),
+            (item + 1, None),
+        )?;
+        self.frames.push(frame)?;
+        self.state = State::Working;
+        Ok(())
     }
 }

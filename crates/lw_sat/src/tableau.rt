@@ -1,160 +1,91 @@
-ghost use Rattle.std.specs.Prelude.{◌≡◌, ◌≢◌, ◌≤◌, length, All, AllPairs};
-ghost use Rattle.lw_sat.specs.Fork.{IsWithin, IsBefore};
+ghost use Rattle.std.specs.Prelude.{◌≡◌, ◌+◌, ◌<◌, ◌≤◌, ◌↔◌, IsTrue, IfOk, OnOk};
+ghost use Rattle.lw_formula.specs.declared.logic.Logic.TheVariants.{K};
+ghost use Rattle.lw_formula.specs.declared.parts.Parts.TheVariants.{Nothing};
+ghost use Rattle.lw_formula.specs.Formula.{depth};
+ghost use Rattle.lw_formula.specs.Tree.{tree_of};
+ghost use Rattle.lw_formula.specs.Validity.{Valid};
+ghost use Rattle.lw_formula.specs.Components.{parts_of};
+ghost use Rattle.lw_sat.specs.Claim.{signed_of, signed_alone, signed_side};
+ghost use Rattle.lw_sat.specs.Branch.{nodes_left};
+ghost use Rattle.lw_sat.specs.Tableau.{Extends, weight, work_with, work_left};
 
-use crate::claim::{Claim, Side};
-use lw_formula::{Form, Name, Sign};
+use crate::branch::Branch;
+use crate::claim::Claim;
+use lw_formula::{Form, Parts};
 use std::alloc::{AllocError, Global};
 
-/// A variable that a branch has met, under its sign there.
-#[derive(Clone, Copy)]
-pub struct Literal<'a> {
-    sign: Sign,
-    name: &'a Name,
-}
-
-/// A branch that waits: how many claims and variables it shares with the branch that is worked on, which of those claims
-/// is its next to be worked off, and what it has behind them.
-#[derive(Clone, Copy)]
-pub struct Fork<'a> {
-    claims: usize,
-    next: usize,
-    literals: usize,
-    side: Side<'a>,
-}
-
-/// A tableau: the branch that is worked on, and those that wait. The claims from `next` on are still to be worked off,
-/// and each variable met so far stands under one sign. A branch that waits shares the beginnings of both lists, a later
-/// one no less than an earlier, so that no branch is copied.
-#[derive(Drop)]
-pub struct Tableau<'a> {
-    claims: Vec<Claim<'a>>,
-    next: usize,
-    literals: Vec<Literal<'a>>,
-    forks: Vec<Fork<'a>>,
-    ghost reached: { next ≤ length claims.items },
-    ghost distinct: { AllPairs (λ l k. l.name.now ≢ k.name.now) literals.items },
-    ghost within: { All (IsWithin claims.items literals.items) forks.items },
-    ghost nested: { AllPairs IsBefore forks.items },
-}
-
-impl<'a> Tableau<'a> {
-    ghost use Rattle.std.specs.Prelude.{IfOk, OnOk, IfSome, IfNone, MatchOption, Any, [], ◌∷◌, ◌++◌};
-    ghost use Rattle.lw_formula.specs.declared.parts.Parts.TheVariants.{Nothing};
-    ghost use Rattle.lw_formula.specs.Formula.{letter};
-    ghost use Rattle.lw_formula.specs.Components.{parts_of};
-    ghost use Rattle.lw_sat.specs.Claim.{signed_of, listed};
-    ghost use Rattle.lw_sat.specs.Branch.{Branch, Settles, with_side};
-    ghost use Rattle.lw_sat.specs.Tableau.{top, waiting, GoesBack};
-
-    /// The tableau of one branch with this claim alone. It fails for want of memory alone.
-    pub fn root(alloc: Global, claim: Claim<'a>) -> Result<Tableau<'a>, AllocError>
-        ensures claims { IfOk result (λ tableau. (top tableau).claims ≡ claim.entry ∷ []) }
-        ensures literals { IfOk result (λ tableau. (top tableau).literals ≡ []) }
-        ensures waiting { IfOk result (λ tableau. waiting tableau ≡ []) }
-    {
-        let mut claims = Vec::new(alloc);
-        claims.push(claim)?;
-        Ok(Tableau {
-            claims,
-            next: 0,
-            literals: Vec::new(alloc),
-            forks: Vec::new(alloc),
-        })
-    }
-
-    /// Takes the next claim of the branch, if one is left.
-    pub fn claim(&mut self) -> Option<Claim<'a>>
-        ensures some { IfSome result (λ claim. (top self.old).claims ≡ claim ∷ (top self.new).claims) }
-        ensures none { IfNone result ((top self.old).claims ≡ []) }
-        ensures literals { (top self.new).literals ≡ (top self.old).literals }
-        ensures waiting { waiting self.new ≡ waiting self.old }
-    {
-        if self.next < self.claims.len() {
-            let claim = self.claims[self.next];
-            self.next += 1;
-            Some(claim)
-        } else {
-            None
-        }
-    }
-
-    /// Puts one claim or two behind the branch's. It fails for want of memory alone.
-    pub fn assume(&mut self, side: Side<'a>) -> Result<(), AllocError>
-        ensures top { OnOk result (top self.new ≡ with_side (top self.old) side.entry) }
-        ensures waiting { OnOk result (waiting self.new ≡ waiting self.old) }
-    {
-        self.claims.push(side.0)?;
-        if let Some(second) = side.1 {
-            self.claims.push(second)?;
-        }
-        Ok(())
-    }
-
-    /// Lets a branch wait that has one claim or two behind this one's. It fails for want of memory alone.
-    pub fn fork(&mut self, side: Side<'a>) -> Result<(), AllocError>
-        ensures top { top self.new ≡ top self.old }
-        ensures waiting { OnOk result (waiting self.new ≡ waiting self.old ++ with_side (top self.old) side.entry ∷ []) }
-    {
-        self.forks.push(Fork {
-            claims: self.claims.len(),
-            next: self.next,
-            literals: self.literals.len(),
-            side,
-        })?;
-        Ok(())
-    }
-
-    /// Leaves the branch for the last that waits, and says whether there is one. It fails for want of memory alone.
-    pub fn back(&mut self) -> Result<bool, AllocError>
-        ensures { IfOk result (λ more. GoesBack self.old more self.new) }
-    {
-        let Some(fork) = self.forks.pop() else {
+/// Whether a formula without `box` and `dia` is valid in K, which is whether it is a tautology: its signed tableau is
+/// worked off until a branch stays open or none is left. It fails for want of memory alone.
+pub fn saturated(alloc: Global, form: &Form) -> Result<bool, AllocError>
+    requires { depth (tree_of form.now) ≡ 0 }
+    ensures { IfOk result (λ valid. IsTrue valid ↔ Valid K (tree_of form.now)) }
+{
+    let mut branches = Vec::new(alloc);
+    branches.push(Branch::root(alloc, Claim::false_of(form))?)?;
+    while let Some(mut branch) = branches.pop() {
+        let Some(claim) = branch.claims.pop() else {
             return Ok(false);
         };
-        self.claims.truncate(fork.claims);
-        self.literals.truncate(fork.literals);
-        self.next = fork.next;
-        self.assume(fork.side)?;
-        Ok(true)
+        extend(alloc, &mut branches, branch, claim)?;
     }
+    Ok(true)
+}
 
-    /// The sign under which the branch has met the variable.
-    pub fn sign_of(&self, name: &Name) -> Option<Sign>
-        ensures { MatchOption result
-            (All (λ l. l.name.now ≢ name.now) (top self.now).literals)
-            (λ sign. Any (λ l. (l.sign ≡ sign) × (l.name.now ≡ name.now)) (top self.now).literals) }
-    {
-        self.literals
-            .iter()
-            .find(|literal| literal.name == name)
-            .map(|literal| literal.sign)
-    }
-
-    /// Notes the variable under the sign, and says whether the branch is still open: it is closed where the variable
-    /// stands on it under the other sign. It fails for want of memory alone.
-    pub fn note(&mut self, sign: Sign, name: &'a Name) -> Result<bool, AllocError>
-        ensures claims { (top self.new).claims ≡ (top self.old).claims }
-        ensures noted { IfOk result (λ is_open. Settles (top self.old) (sign, letter name.now) is_open (top self.new)) }
-        ensures waiting { waiting self.new ≡ waiting self.old }
-    {
-        if let Some(met) = self.sign_of(name) {
-            return Ok(met == sign);
+// Puts the branch back with the claim worked off: not at all where the claim closes it, and twice where the claim has
+// two sides.
+fn extend<'a>(
+    alloc: Global,
+    branches: &mut Vec<Branch<'a>>,
+    branch: Branch<'a>,
+    claim: Claim<'a>,
+) -> Result<(), AllocError>
+    ensures extends { OnOk result
+        (Extends branches.old.items branch.entry (signed_alone claim.entry) branches.new.items) }
+    ensures work { let work = work_with branch.entry (signed_alone claim.entry) in
+        OnOk result (work_left branches.new.items < work_left branches.old.items + work) }
+{
+    match claim.parts() {
+        Parts::Nothing => settle(branches, branch, claim),
+        Parts::One(first, second) => put(branches, branch, (first, second)),
+        Parts::Two(left, right) => {
+            let copy = branch.try_clone(alloc)?;
+            put(branches, copy, right)?;
+            put(branches, branch, left)
         }
-        self.literals.push(Literal { sign, name })?;
-        Ok(true)
+        Parts::Nu(_) | Parts::Pi(_) => unreachable!(),
     }
+}
 
-    /// Works off a claim that has no components, and says whether the branch is still open. It fails for want of
-    /// memory alone.
-    pub fn settle(&mut self, claim: Claim<'a>) -> Result<bool, AllocError>
-        requires { parts_of (signed_of claim) ≡ Nothing }
-        ensures claims { (top self.new).claims ≡ (top self.old).claims }
-        ensures settled { IfOk result (λ is_open. Settles (top self.old) (signed_of claim.entry) is_open (top self.new)) }
-        ensures waiting { waiting self.new ≡ waiting self.old }
-    {
-        match claim.form {
-            Form::Var(name) => self.note(claim.sign, name),
-            _ => Ok(!claim.is_absurd()),
-        }
+// Puts the branch back with one claim or two behind its own.
+fn put<'a>(
+    branches: &mut Vec<Branch<'a>>,
+    mut branch: Branch<'a>,
+    side: (Claim<'a>, Option<Claim<'a>>),
+) -> Result<(), AllocError>
+    ensures extends { OnOk result
+        (Extends branches.old.items branch.entry (signed_side side.entry) branches.new.items) }
+    ensures work { let work = work_with branch.entry (signed_side side.entry) in
+        OnOk result (work_left branches.new.items ≡ work_left branches.old.items + work) }
+{
+    branch.assume(side.0, side.1)?;
+    branches.push(branch)?;
+    Ok(())
+}
+
+// Puts the branch back where the claim, which has no components, leaves it open.
+fn settle<'a>(
+    branches: &mut Vec<Branch<'a>>,
+    mut branch: Branch<'a>,
+    claim: Claim<'a>,
+) -> Result<(), AllocError>
+    requires { parts_of (signed_of claim) ≡ Nothing }
+    ensures extends { OnOk result
+        (Extends branches.old.items branch.entry (signed_alone claim.entry) branches.new.items) }
+    ensures work { let work = weight (nodes_left branch.entry) in
+        OnOk result (work_left branches.new.items ≤ work_left branches.old.items + work) }
+{
+    if branch.settle(claim)? {
+        branches.push(branch)?;
     }
+    Ok(())
 }

@@ -1,0 +1,6 @@
+use Rattle.lw_sat.specs.Sets.{top, Replaces}
+use Rattle.lw_sat.proofs.Pouring.{poured}
+use Rattle.lw_sat.proofs.bits.pour.Given as goal
+
+abbrev pub invariant-loop-item : goal.invariant-loop-item
+invariant-loop-item l = Replaces l.initial.into l.into (poured (top l.from) (top l.initial.into) l.item)

@@ -1,0 +1,13 @@
+use Rattle.std.proofs.Common.{◌∙◌, ap}
+use Rattle.std.proofs.Common.{◌++◌, ◌∷◌, []}
+use Rattle.lw_sat.specs.Sets.{sets, top}
+use Rattle.lw_sat.proofs.Boards.{becomes_kept, pushed_full, unchanged}
+use Rattle.lw_sat.proofs.board.Board.keep.Goals as goal
+
+pub returns : goal.returns
+returns c =
+    let reserved = c.in_ok-reserve.ensures.ok in
+    let pushed = c.push_empty.ensures.pushed in
+    becomes_kept c.args.self.now c.args.self.now.labels c.pour.new.into _ _ c.requires (unchanged c.args.self.now.labels c.requires.label) c.pour.ensures.there.region
+    (c.pour.ensures.width ∙ ap (λ r. r.width) pushed ∙ ap (λ r. r.width) reserved)
+    (pushed_full c.reserve.new.self c.push_empty.new.self c.pour.new.into (top c.args.self.now.labels) _ pushed c.pour.ensures ∙ ap (λ r. sets r ++ top c.args.self.now.labels ∷ []) reserved)

@@ -1,0 +1,16 @@
+use Rattle.std.proofs.Common.{ℕ, ◌≤◌, Bool}
+use Rattle.lw_proof.specs.System.{Set}
+use Rattle.lw_sat.specs.Moves.{Survives}
+use Rattle.lw_sat.specs.Path.{most_steps}
+use Rattle.lw_sat.specs.Saturated.{room, IsAt}
+use Rattle.lw_sat.proofs.saturation.run.Given as goal
+
+abbrev pub invariant-loop-proof : goal.invariant-loop-proof
+invariant-loop-proof l = record {
+  at : (X : Set ℕ) (test : Set ℕ → Bool) → Survives l.closure test → IsAt l.closure X test l.initial.frames.items l.initial.board → IsAt l.closure X test l.frames.items l.board;
+  room : room l.board ≤ room l.initial.board;
+  steps : most_steps l.frames.items ≤ most_steps l.initial.frames.items;
+}
+
+abbrev pub decreases-loop-proof : goal.decreases-loop-proof
+decreases-loop-proof l = room l.board

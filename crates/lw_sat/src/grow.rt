@@ -1,0 +1,46 @@
+// Rules that put something into the label.
+ghost use Rattle.std.specs.Prelude.{◌≡◌, ◌++◌, [], ◌∷◌, IfOk, OnOk};
+ghost use Rattle.lw_sat.specs.Moves.{listed};
+ghost use Rattle.lw_sat.specs.Path.{spot_of, Becomes, IsBoard};
+ghost use Rattle.lw_sat.specs.Sets.{adding, lower, top, AreBelow};
+ghost use Rattle.lw_sat.specs.declared.frame.Frame.TheVariants.{Alone, First};
+
+use crate::board::Board;
+use crate::frame::{Frame, Side};
+use lw_proof::Rule;
+use std::alloc::AllocError;
+
+/// Puts the components of a rule with one premise into the label, and gives the rule's frame.
+pub fn grow(board: &mut Board, rule: Rule, item: usize, side: Side) -> Frame
+    requires board { IsBoard board.old }
+    requires inside { AreBelow board.old.bits (listed side) }
+    ensures frame { result ≡ Alone rule item side }
+    ensures grown { Becomes board.old board.new (record (spot_of board.old) { set = adding (listed side) (top board.old.labels) }) }
+{
+    board.add_side(side);
+    Frame::Alone { rule, item, side }
+}
+
+/// Makes the label a branch point, and puts the first side of a rule with two premises into its copy. Gives the rule's
+/// frame.
+pub fn branch(
+    board: &mut Board,
+    rule: Rule,
+    item: usize,
+    first: Side,
+    second: Side,
+) -> Result<Frame, AllocError>
+    requires board { IsBoard board.old }
+    requires inside { AreBelow board.old.bits (listed first) }
+    ensures frame { IfOk result (λ frame. frame ≡ First rule item first second) }
+    ensures grown { OnOk result (Becomes board.old board.new (record (spot_of board.old) { set = adding (listed first) (top board.old.labels); below = lower board.old.labels ++ top board.old.labels ∷ [] })) }
+{
+    board.fork()?;
+    board.add_side(first);
+    Ok(Frame::First {
+        rule,
+        item,
+        first,
+        second,
+    })
+}
