@@ -41,7 +41,7 @@ is_two-map f Nothing = refl
 is_two-map f (Nu a) = refl
 is_two-map f (Pi a) = refl
 
-is_nu-map : {I J : Type 0} (f : I → J) (p : Parts I) → is_nu (map_parts f p) ≡ is_nu p
+pub is_nu-map : {I J : Type 0} (f : I → J) (p : Parts I) → is_nu (map_parts f p) ≡ is_nu p
 is_nu-map f (One a b) = refl
 is_nu-map f (Two p q) = refl
 is_nu-map f Nothing = refl
@@ -62,7 +62,7 @@ only_nu (F, poss a) c e = let f : c ≡ (F, a) = cc in ap nu_of (sym f)
 only_nu _ c e = cc
 
 -- the guard of a search is that of the calculus, where it is there
-guard_in-cases : (logic : Logic) (goal : Formula) (s g : Signed) → guard_in logic goal s ≡ Some g → guard_of s ≡ Some g
+pub guard_in-cases : (logic : Logic) (goal : Formula) (s g : Signed) → guard_in logic goal s ≡ Some g → guard_of s ≡ Some g
 guard_in-cases K goal s g e = cc
 guard_in-cases KT goal s g e = cc
 guard_in-cases S4 goal s g e = cc
@@ -114,10 +114,10 @@ module _ (ts : List Formula) (t : Table) (keeps : Keeps ts t) where
   may_cut = goal_cuts goal
 
   -- the signed formulas of the items of X are in Y
-  abbrev IsLifted : Set ℕ → SignedSet → Type 0
+  abbrev pub IsLifted : Set ℕ → SignedSet → Type 0
   IsLifted X Y = (i : ℕ) → IsTrue (X i) → (i < n) × IsTrue (Y (s i))
 
-  abbrev AreLifted : List (Set ℕ) → List SignedSet → Type 0
+  abbrev pub AreLifted : List (Set ℕ) → List SignedSet → Type 0
   AreLifted [] [] = ⊤
   AreLifted (X ∷ Xs) (Y ∷ Ys) = IsLifted X Y × AreLifted Xs Ys
   AreLifted _ _ = ⊥
@@ -126,7 +126,7 @@ module _ (ts : List Formula) (t : Table) (keeps : Keeps ts t) where
   abbrev Covers : List ℕ → List Signed → Type 0
   Covers cs ds = (i : ℕ) → list_any (λ c. nat_eq c i) cs ≡ true → (i < n) × (list_any (λ d. same_signed d (s i)) ds ≡ true)
 
-  s_flip : (i : ℕ) → s (flip_item i) ≡ flip (s i)
+  pub s_flip : (i : ℕ) → s (flip_item i) ≡ flip (s i)
   s_flip i = λ j. (sign_flip i j, form_at ts t.forms (half_flip i j))
 
   covers_none : (ds : List Signed) → Covers [] ds
@@ -209,7 +209,7 @@ module _ (ts : List Formula) (t : Table) (keeps : Keeps ts t) where
       ]
   kept_lifted Grz X Y w = own_lifted X Y w
 
-  premises_lifted : (L : Logic) (r : Rule) (i : ℕ) (p : Parts ℕ) (X : Set ℕ) (Y : SignedSet) → i < n → OfParts (λ j. j < n) p → IsLifted X Y →
+  pub premises_lifted : (L : Logic) (r : Rule) (i : ℕ) (p : Parts ℕ) (X : Set ℕ) (Y : SignedSet) → i < n → OfParts (λ j. j < n) p → IsLifted X Y →
       AreLifted (premises (items t) L r i p X) (premises trees L r (s i) (map_parts s p) Y)
   premises_lifted L Rule.One i (One c d) X Y l b w = (plus_lifted (side c d) (side (s c) (option_map s d)) X Y (covers_side c d b) w, tt)
   premises_lifted L Rule.Two i (Two p q) X Y l b w = (
@@ -229,7 +229,7 @@ module _ (ts : List Formula) (t : Table) (keeps : Keeps ts t) where
   )
   premises_lifted L _ i p X Y l b w = tt
 
-  applies_below : (X : Set ℕ) (Y : SignedSet) → IsLifted X Y → (r : Rule) (i : ℕ) → Applies (items t) (cuts t) t.logic X r i → i < n
+  pub applies_below : (X : Set ℕ) (Y : SignedSet) → IsLifted X Y → (r : Rule) (i : ℕ) → Applies (items t) (cuts t) t.logic X r i → i < n
   applies_below X Y w Rule.Close i a = (w i a.1).0
   applies_below X Y w Rule.Absurd i a = (w i a.1).0
   applies_below X Y w Rule.One i a = (w i a.1).0

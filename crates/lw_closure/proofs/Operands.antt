@@ -20,7 +20,7 @@ use Rattle.lw_closure.proofs.Guarding.{each_more}
 use Rattle.lw_closure.proofs.Putting.{Stands, operand_stands}
 
 -- a component's formula is an operand
-parts_operands : (s : Signed) → OfParts (λ c. IsOperand c.1 s.1) (parts_of s)
+pub parts_operands : (s : Signed) → OfParts (λ c. IsOperand c.1 s.1) (parts_of s)
 parts_operands (T, conj a b) = (inl refl, inr refl)
 parts_operands (F, conj a b) = (inl refl, inr refl)
 parts_operands (T, disj a b) = (inl refl, inr refl)

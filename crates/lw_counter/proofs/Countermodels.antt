@@ -13,7 +13,7 @@ use Rattle.lw_formula.specs.Class.{HasFrame, IsReflexive, IsTransitive}
 use Rattle.lw_formula.specs.Signed.{Signed, SignedSet, flip, HoldsSigned}
 use Rattle.lw_formula.specs.Components.{parts_of}
 use Rattle.lw_proof.specs.System.{trees, nu_of}
-use Rattle.lw_proof.specs.Derivation.{has_refl, is_nu, is_pi, is_modal_part}
+use Rattle.lw_proof.specs.Derivation.{has_cut, has_refl, is_nu, is_pi, is_modal_part}
 use Rattle.lw_proof.proofs.Means.{means_back}
 use Rattle.lw_counter.specs.Fragment.{Fragment, world_at}
 use Rattle.lw_counter.specs.Paths.{has_links, IsEdge, Reaches, IsRelated}
@@ -122,7 +122,10 @@ witnessed : (L : Logic) (f : Fragment) (label : ℕ → SignedSet) → IsOpen tr
     (v : ℕ) × (v < length f.worlds) × IsRelated L f w v × (label v c ≡ true)
 witnessed L f label o w l s c h e = elim (o.served w l s c h e) [
   | inl here ↦ (w, l, itself L here.0, here.1)
-  | inr there ↦ (there.0, (edge_within L f o.formed w there.0 there.1).1, along L there.0 there.1, there.2)
+  | inr there ↦ elim there.1 [
+    | inl edge ↦ (there.0, (edge_within L f o.formed w there.0 edge).1, along L there.0 edge, there.2)
+    | inr any ↦ (there.0, any.1, all L there.0 any.0, there.2)
+  ]
 ]
   where
     itself : (L : Logic) → has_refl L ≡ true → IsRelated L f w w
@@ -132,6 +135,14 @@ witnessed L f label o w l s c h e = elim (o.served w l s c h e) [
     itself S5 r = tt
     itself GL r = absurd (false≢true r)
     itself Grz r = inl refl
+
+    all : (L : Logic) (v : ℕ) → has_cut L ≡ true → IsRelated L f w v
+    all S5 v r = tt
+    all K v r = absurd (false≢true r)
+    all KT v r = absurd (false≢true r)
+    all S4 v r = absurd (false≢true r)
+    all GL v r = absurd (false≢true r)
+    all Grz v r = absurd (false≢true r)
 
     along : (L : Logic) (v : ℕ) → IsEdge L f w v → IsRelated L f w v
     along K v e = e

@@ -29,7 +29,7 @@ use Rattle.lw_counter.specs.Laws.{OpenItemsAreOpenFormulas, OpenItemsMakeCounter
 use Rattle.lw_counter.proofs.Countermodels.{open_models}
 
 -- what is a ν, or a π, after a map of components was one before, with a component that is mapped to this one
-nu_before : {I J : Type 0} (f : I → J) (p : Parts I) (c : J) → map_parts f p ≡ Nu c → (i : I) × (p ≡ Nu i) × (f i ≡ c)
+pub nu_before : {I J : Type 0} (f : I → J) (p : Parts I) (c : J) → map_parts f p ≡ Nu c → (i : I) × (p ≡ Nu i) × (f i ≡ c)
 nu_before f (Nu i) c e = (i, refl, cc)
 nu_before f Nothing c e = cc
 nu_before f (One a b) c e = cc
@@ -58,15 +58,15 @@ is_pi-map f (Nu a) = refl
 is_pi-map f (Pi a) = refl
 
 -- the one component of a ν
-nu_of-parts : (s : Signed) → parts_of (nu_of s) ≡ Nu s
+pub nu_of-parts : (s : Signed) → parts_of (nu_of s) ≡ Nu s
 nu_of-parts (T, a) = refl
 nu_of-parts (F, a) = refl
 
-is_nu_to-same : (i : ℕ) → is_nu_to i (Nu i) ≡ true
+pub is_nu_to-same : (i : ℕ) → is_nu_to i (Nu i) ≡ true
 is_nu_to-same i = eq-eqb i i refl
 
 -- a number below n that passes the test is found
-any_below-found : (test : ℕ → Bool) (n i : ℕ) → i < n → test i ≡ true → any_below test n ≡ true
+pub any_below-found : (test : ℕ → Bool) (n i : ℕ) → i < n → test i ≡ true → any_below test n ≡ true
 any_below-found test zero i l e = absurd (omega arith)
 any_below-found test (suc n) i l e = elim (cases_lt i n) [
   | inl lower ↦ or_right (test n) (any_below test n) (any_below-found test n i lower e)
@@ -74,7 +74,7 @@ any_below-found test (suc n) i l e = elim (cases_lt i n) [
 ]
 
 -- the rest by 2 tells the sign
-same_rest : (a b : ℕ) → a < 2 → b < 2 → cond (eqb a 0) T F ≡ cond (eqb b 0) T F → a ≡ b
+pub same_rest : (a b : ℕ) → a < 2 → b < 2 → cond (eqb a 0) T F ≡ cond (eqb b 0) T F → a ≡ b
 same_rest a b l k e = go (eqb a 0) (eqb b 0) refl refl e
   where
     go : (x y : Bool) → eqb a 0 ≡ x → eqb b 0 ≡ y → cond x T F ≡ cond y T F → a ≡ b

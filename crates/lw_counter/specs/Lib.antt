@@ -4,3 +4,4 @@ pub mod Open
 pub mod Countermodel
 pub mod Relation
 pub mod Laws
+pub mod Answered

@@ -8,9 +8,13 @@ use Rattle.lw_closure.specs.Unclosed.{IsUnclosed}
 use Rattle.lw_counter.specs.Fragment.{Fragment, IsFormed, world_at}
 use Rattle.lw_counter.specs.Paths.{IsEdge}
 
--- the component c of a π of world w is in the world's own label, where worlds see themselves, or in that of a world along an edge
+-- world v is one that w surely sees: an edge leads there, or all worlds see all, in the logic with cuts
+abbrev pub IsOffered : Logic → Fragment → ℕ → ℕ → Type 0
+IsOffered L f w v = IsEdge L f w v ⊎ (IsTrue (has_cut L) × (v < length f.worlds))
+
+-- the component c of a π of world w is in the world's own label, where worlds see themselves, or in that of a world that it surely sees
 abbrev pub HasWitness : {I : Type 0} → Logic → Fragment → (ℕ → Set I) → ℕ → I → Type 0
-HasWitness L f label w c = (IsTrue (has_refl L) × IsTrue (label w c)) ⊎ ((v : ℕ) × IsEdge L f w v × IsTrue (label v c))
+HasWitness L f label w c = (IsTrue (has_refl L) × IsTrue (label w c)) ⊎ ((v : ℕ) × IsOffered L f w v × IsTrue (label v c))
 
 -- each world is the root, which is world 0, or its child, and each modal formula of a label stands in the root's under one of the signs
 pub record IsRound {I : Type 0} (S : System I) (f : Fragment) (label : ℕ → Set I) : Type 0 where

@@ -91,7 +91,7 @@ impl Fragment {
     }
 
     /// The world whose child this one is, if it is one.
-    pub(crate) fn parent(&self, world: usize) -> Option<usize>
+    pub fn parent(&self, world: usize) -> Option<usize>
         requires { world < length self.now.worlds }
         ensures { result ≡ (world_at self.now world).parent }
     {
@@ -100,7 +100,7 @@ impl Fragment {
     }
 
     /// The items of a world's label.
-    pub(crate) fn label(&self, world: usize) -> &[usize]
+    pub fn label(&self, world: usize) -> &[usize]
         requires { world < length self.now.worlds }
         ensures { result.now ≡ (world_at self.now world).label }
     {
@@ -109,7 +109,7 @@ impl Fragment {
     }
 
     /// The links, each as the world that it leads from and the one that it leads to.
-    pub(crate) fn links(&self) -> &[(usize, usize)]
+    pub fn links(&self) -> &[(usize, usize)]
         ensures links { result.now ≡ self.now.links }
         ensures formed { IsFormed self.now }
     {
@@ -117,7 +117,7 @@ impl Fragment {
     }
 
     /// The memory that the fragment is kept in.
-    pub(crate) fn allocator(&self) -> Global {
+    pub fn allocator(&self) -> Global {
         *self.worlds.allocator()
     }
 }
