@@ -4,6 +4,8 @@
 mod judge;
 mod premise;
 mod step;
+#[cfg(test)]
+mod tests;
 mod verdict;
 mod walked;
 
