@@ -24,6 +24,7 @@ use Rattle.lw_sat.specs.Saturated.{every, fold_steps, room, FoldsAll, IsAt, IsCl
 use Rattle.lw_sat.specs.Sets.{adding, among, top}
 use Rattle.lw_sat.proofs.Finding.{flip_even}
 use Rattle.lw_sat.proofs.Lacking.{weight_some}
+use Rattle.lw_sat.proofs.Unwinding.{seed_closed}
 use Rattle.lw_sat.proofs.Using.{closes_rests}
 
 -- every set passes the test of every set
@@ -40,7 +41,7 @@ module _ (t : Table) (X : Set ℕ) (test : Set ℕ → Bool) (fs : List Frame) (
 
   pub fits_after : (found : Option (Tree SignedId)) → FoldsAll t X test fs b found → StateFits t X test fs b (state_from found)
   fits_after None h = h
-  fits_after (Some p) h = h
+  fits_after (Some p) h = seed_closed t X b p h
 
   -- the label that waits is closed by a proof
   pub closing_label : (p : Tree SignedId) → IsAt t X test fs b → Closes t (top b.labels) p → IsClosing t X test fs b p

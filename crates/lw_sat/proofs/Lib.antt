@@ -1,7 +1,3 @@
-pub mod Rules
-pub mod Branches
-pub mod Weights
-pub mod OpenBranch
 pub mod Listing
 pub mod Lacking
 pub mod Using

@@ -8,7 +8,7 @@ use Rattle.lw_sat.specs.declared.board.Board.{Board}
 use Rattle.lw_sat.specs.declared.frame.Frame.{Frame}
 use Rattle.lw_sat.specs.declared.frame.Folded.TheVariants.{Closed, Turned}
 use Rattle.lw_sat.specs.Sets.{top, weights, lower}
-use Rattle.lw_sat.specs.Closing.{Closes, Rests}
+use Rattle.lw_sat.specs.Closing.{Closes}
 use Rattle.lw_sat.specs.Path.{Spot, root, spot_of, Chain, ClosesAbove, FoldsTo, IsBoard, IsClosedAt, IsWide, Link, room_below}
 use Rattle.lw_sat.specs.Saturated.{IsAt, IsClosing, room}
 use Rattle.lw_sat.proofs.Leading.{chain_off, chain_on}
@@ -56,7 +56,9 @@ module _ (t : Table) (X : Set ℕ) (test : Set ℕ → Bool) where
         omega (arith, r.falls)
 
   -- with no frame left the proof closes the seed
-  pub all_closed : (b : Board) (p : Tree SignedId) → IsClosing t X test [] b p → Closes t X p
-  all_closed b p h =
-      let e : root X ≡ h.spot = h.leads in
-      rests_closes t (top b.labels) X p (let g : Spot → Set ℕ = λ s. s.set in subst (λ Y. Rests t (top b.labels) Y p) (sym (ap g e)) h.closed.rests)
+  pub all_closed : (b : Board) (p : Tree SignedId) → IsClosing t X test [] b p → IsClosedAt t (root X) b p
+  all_closed b p h = subst (λ s. IsClosedAt t s b p) (sym h.leads) h.closed
+
+-- what closes the seed by some of its items closes it
+pub seed_closed : (t : Table) (X : Set ℕ) (b : Board) (p : Tree SignedId) → IsClosedAt t (root X) b p → Closes t X p
+seed_closed t X b p h = rests_closes t (top b.labels) X p h.rests

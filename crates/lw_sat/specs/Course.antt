@@ -15,7 +15,7 @@ use Rattle.lw_sat.specs.declared.saturation.State.{State}
 use Rattle.lw_sat.specs.declared.saturation.State.TheVariants.{Working, Waiting, Closed, Answered, Failed}
 use Rattle.lw_sat.specs.declared.saturation.Saturation.{Saturation}
 use Rattle.lw_sat.specs.Closing.{Closes}
-use Rattle.lw_sat.specs.Path.{most_steps}
+use Rattle.lw_sat.specs.Path.{root, most_steps, IsClosedAt}
 use Rattle.lw_sat.specs.Saturated.{room, IsAt}
 use Rattle.lw_sat.specs.Sets.{top}
 
@@ -92,7 +92,7 @@ FoundSteps n s (found.Closed p) = steps p ≤ n
 -- what a run of rounds comes to
 abbrev pub RunFits : Table → Set ℕ → (Set ℕ → Bool) → List Frame → Board → Option (Tree SignedId) → Type 0
 RunFits t X test frames b None = IsAt t X test frames b × IsUnclosedLabel t (top b.labels)
-RunFits t X test frames b (Some p) = Closes t X p
+RunFits t X test frames b (Some p) = IsClosedAt t (root X) b p
 
 -- the state that a fold of frames leads to
 abbrev pub state_from : Option (Tree SignedId) → State

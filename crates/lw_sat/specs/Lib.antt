@@ -1,6 +1,3 @@
-pub mod Claim
-pub mod Branch
-pub mod Tableau
 pub mod Sets
 pub mod Closing
 pub mod Moves

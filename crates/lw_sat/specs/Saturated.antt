@@ -11,7 +11,6 @@ use Rattle.lw_sat.specs.declared.frame.Frame.{Frame}
 use Rattle.lw_sat.specs.declared.round.Round.{Round}
 use Rattle.lw_sat.specs.declared.round.Round.TheVariants.{Moved, Quiet, Done}
 use Rattle.lw_sat.specs.Sets.{top, IsOfItems}
-use Rattle.lw_sat.specs.Closing.{Closes}
 use Rattle.lw_sat.specs.Path.{Spot, root, spot_of, Chain, IsBoard, IsClosedAt, IsWide, most_steps, room_at}
 
 -- the frames lead from the seed X to the label, and the test holds of it and of all that waits
@@ -31,10 +30,10 @@ pub record IsClosing (t : Table) (X : Set ℕ) (test : Set ℕ → Bool) (frames
   pub leads : Chain t test (root X) frames spot
   pub closed : IsClosedAt t spot b p
 
--- what a fold of all frames comes to: a label under work, or a proof that closes the seed
+-- what a fold of all frames comes to: a label under work, or a proof that closes the seed by items that the board has
 abbrev pub FoldsAll : Table → Set ℕ → (Set ℕ → Bool) → List Frame → Board → Option (Tree SignedId) → Type 0
 FoldsAll t X test frames b None = IsAt t X test frames b
-FoldsAll t X test frames b (Some p) = Closes t X p
+FoldsAll t X test frames b (Some p) = IsClosedAt t (root X) b p
 
 -- the test of every set
 abbrev pub every : Set ℕ → Bool
@@ -44,7 +43,7 @@ every X = true
 abbrev pub RoundFits : Table → Set ℕ → (Set ℕ → Bool) → List Frame → Board → Round → Type 0
 RoundFits t X test frames b Moved = IsAt t X test frames b
 RoundFits t X test frames b Quiet = IsAt t X test frames b × IsUnclosedLabel t (top b.labels)
-RoundFits t X test frames b (Done p) = Closes t X p
+RoundFits t X test frames b (Done p) = IsClosedAt t (root X) b p
 
 -- the greatest number of Steps on a path of a proof that is held
 abbrev pub fold_steps : List Frame → Option (Tree SignedId) → ℕ

@@ -1,11 +1,11 @@
-ghost use Rattle.std.specs.Prelude.{◌≡◌, ℕ, ◌*◌, ◌<◌, ◌≤◌, List, [], ◌∷◌, ◌++◌, length, OnOk, IfOk};
+ghost use Rattle.std.specs.Prelude.{◌≡◌, ℕ, ◌+◌, ◌*◌, ◌<◌, ◌≤◌, List, [], ◌∷◌, ◌++◌, length, OnOk, IfOk};
 ghost use Rattle.lw_proof.specs.System.{Set};
 ghost use Rattle.std.specs.List.{list_any};
 ghost use Rattle.lw_sat.specs.Sets.{adding, either, lower, nothing, sets, top, without, AreBelow};
 ghost use Rattle.lw_sat.specs.Moves.{listed, needed};
 ghost use Rattle.lw_sat.specs.Path.{spot_of, root, IsBoard, Becomes};
 
-use crate::bits::{add, add_side, clear, pour, remove_side};
+use crate::bits::{add, add_side, clear, pour, remove, remove_side};
 use crate::frame::Side;
 use lw_proof::Rule;
 use lw_rows::Rows;
@@ -29,6 +29,7 @@ impl Board {
         ensures board { IfOk result (λ board. IsBoard board) }
         ensures spot { IfOk result (λ board. spot_of board ≡ root nothing) }
         ensures wide { IfOk result (λ board. items ≤ board.bits) }
+        ensures few { IfOk result (λ board. board.bits ≤ items + 64) }
     {
         let width = items / 64 + 1;
         let mut labels = Rows::new(alloc, width);
@@ -66,6 +67,15 @@ impl Board {
         ensures { Becomes self.old self.new (record (spot_of self.old) { set = adding (listed side) (top self.old.labels) }) }
     {
         add_side(&mut self.labels, side);
+    }
+
+    /// Takes the item out of the label.
+    pub fn remove(&mut self, item: usize)
+        requires board { IsBoard self.old }
+        requires inside { item < self.old.bits }
+        ensures { Becomes self.old self.new (record (spot_of self.old) { set = without (item ∷ []) (top self.old.labels) }) }
+    {
+        remove(&mut self.labels, item);
     }
 
     /// Makes the label a branch point: a copy of it is the label.

@@ -1,20 +1,22 @@
-//! Whether a formula without `box` and `dia` is valid, by Smullyan's signed tableau (First-Order Logic, chapter II).
+//! The saturation of labels by all rules but Step, by Smullyan's signed tableau (First-Order Logic, chapter II): the
+//! unclosed labels that come of a seed, one after another, until all are refused and a proof closes the seed.
 #![tactic(auto)]
 
 mod bits;
 mod board;
-mod branch;
-mod claim;
+mod closing;
 mod fold;
 mod frame;
 mod grow;
 mod round;
 mod saturation;
-mod tableau;
 #[cfg(test)]
-mod tests;
-mod unwind;
+mod saturation_tests;
 mod work;
 
+pub use board::Board;
+pub use closing::unwind;
+pub use fold::{fold_frame, signed};
+pub use frame::{Folded, Frame, Side};
+pub use round::run;
 pub use saturation::{Found, Saturation};
-pub use tableau::saturated;

@@ -1,18 +1,19 @@
-// One round of a saturation.
-ghost use Rattle.std.specs.Prelude.{◌≡◌, ℕ, ◌<◌, ◌≤◌, Bool, max, IfOk, OnOk, [], ◌∷◌};
+// The rounds of a saturation.
+ghost use Rattle.std.specs.Prelude.{◌≡◌, ℕ, ◌<◌, ◌≤◌, Bool, max, IfNone, IfOk, OnOk, [], ◌∷◌};
 ghost use Rattle.lw_proof.specs.System.{Set};
 ghost use Rattle.lw_proof.specs.Tree.{node, none};
 ghost use Rattle.lw_closure.specs.Table.{item_at, item_count};
 ghost use Rattle.lw_sat.specs.Moves.{listed, Survives};
 ghost use Rattle.lw_sat.specs.Path.{most_steps, spot_of, Becomes, IsBoard};
-ghost use Rattle.lw_sat.specs.Saturated.{every, room, round_steps, IsAt, RoundFalls, RoundFits};
+ghost use Rattle.lw_sat.specs.Course.{RunFits};
+ghost use Rattle.lw_sat.specs.Saturated.{every, fold_steps, room, round_steps, IsAt, RoundFalls, RoundFits};
 ghost use Rattle.lw_sat.specs.Sets.{adding, nothing, AreBelow};
 
 use crate::board::Board;
+use crate::closing::unwind;
 use crate::fold::signed;
 use crate::frame::{Frame, Side};
 use crate::grow::{branch, grow};
-use crate::unwind::unwind;
 use crate::work::{Work, find};
 use lw_closure::Closure;
 use lw_proof::{Proof, Rule};
@@ -57,6 +58,8 @@ pub fn advance(
 ) -> Result<Round, AllocError>
     requires { (X : Set ℕ) × IsAt closure.now X every frames.old.items board.old }
     ensures fits { (X : Set ℕ) (test : Set ℕ → Bool) → Survives closure.now test → IsAt closure.now X test frames.old.items board.old → IfOk result (RoundFits closure.now X test frames.new.items board.new) }
+    ensures board { OnOk result (IsBoard board.new) }
+    ensures bits { OnOk result (board.new.bits ≡ board.old.bits) }
     ensures falls { IfOk result (RoundFalls (room board.old) (room board.new)) }
     ensures steps { IfOk result (λ round. round_steps frames.new.items round ≤ most_steps frames.old.items) }
 {
@@ -83,5 +86,29 @@ pub fn advance(
             Ok(Round::Moved)
         }
         Work::Nothing => Ok(Round::Quiet),
+    }
+}
+
+/// Goes on until a label is unclosed, or gives the proof that closes the seed. After an error nothing is known of frames
+/// and board.
+pub fn run(
+    alloc: Global,
+    closure: &Closure,
+    frames: &mut Vec<Frame>,
+    board: &mut Board,
+) -> Result<Option<Proof>, AllocError>
+    requires { (X : Set ℕ) × IsAt closure.now X every frames.old.items board.old }
+    ensures found { (X : Set ℕ) (test : Set ℕ → Bool) → Survives closure.now test → IsAt closure.now X test frames.old.items board.old → IfOk result (RunFits closure.now X test frames.new.items board.new) }
+    ensures board { OnOk result (IsBoard board.new) }
+    ensures bits { OnOk result (board.new.bits ≡ board.old.bits) }
+    ensures falls { IfOk result (λ found. IfNone found (room board.new ≤ room board.old)) }
+    ensures steps { IfOk result (λ found. fold_steps frames.new.items found ≤ most_steps frames.old.items) }
+{
+    loop {
+        match advance(alloc, closure, frames, board)? {
+            Round::Moved => {}
+            Round::Quiet => return Ok(None),
+            Round::Done(proof) => return Ok(Some(proof)),
+        }
     }
 }

@@ -12,10 +12,10 @@ ghost use Rattle.lw_sat.specs.Course.{is_ready, label, state_from, steps_held, w
 ghost use Rattle.lw_sat.specs.Sets.{adding, among};
 
 use crate::board::Board;
+use crate::closing::unwind;
 use crate::frame::Frame;
 use crate::grow::branch;
-use crate::round::{Round, advance};
-use crate::unwind::unwind;
+use crate::round::run;
 use lw_closure::Closure;
 use lw_formula::Logic;
 use lw_proof::{Proof, Rule};
@@ -53,27 +53,6 @@ pub struct Saturation {
     pub(crate) frames: Vec<Frame>,
     pub(crate) board: Board,
     pub(crate) state: State,
-}
-
-// Goes on until a label is unclosed, or gives the proof that closes the seed.
-fn run(
-    alloc: Global,
-    closure: &Closure,
-    frames: &mut Vec<Frame>,
-    board: &mut Board,
-) -> Result<Option<Proof>, AllocError>
-    requires { (X : Set ℕ) × IsAt closure.now X every frames.old.items board.old }
-    ensures found { (X : Set ℕ) (test : Set ℕ → Bool) → Survives closure.now test → IsAt closure.now X test frames.old.items board.old → IfOk result (RunFits closure.now X test frames.new.items board.new) }
-    ensures falls { IfOk result (λ found. IfNone found (room board.new ≤ room board.old)) }
-    ensures steps { IfOk result (λ found. fold_steps frames.new.items found ≤ most_steps frames.old.items) }
-{
-    loop {
-        match advance(alloc, closure, frames, board)? {
-            Round::Moved => {}
-            Round::Quiet => return Ok(None),
-            Round::Done(proof) => return Ok(Some(proof)),
-        }
-    }
 }
 
 // The state after all frames were taken off, or after a label came under work.

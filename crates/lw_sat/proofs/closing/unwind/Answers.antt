@@ -4,7 +4,7 @@ use Rattle.lw_sat.specs.Path.{folded_steps, most_steps, FoldsTo}
 use Rattle.lw_sat.specs.Saturated.{every, IsAt, IsClosing}
 use Rattle.lw_sat.proofs.Leading.{most_steps-on}
 use Rattle.lw_sat.proofs.Unwinding.{all_closed, closes_above, folded_closed, folded_turned, room_closed, room_turned}
-use Rattle.lw_sat.proofs.unwind.unwind.Goals as goal
+use Rattle.lw_sat.proofs.closing.unwind.Goals as goal
 
 pub fold_frame-requires-clause-board : goal.fold_frame-requires-clause-board
 fold_frame-requires-clause-board c = (c.loop-frame.invariant.closing c.requires.0 every c.requires.1).board
@@ -32,8 +32,12 @@ loop-frame-preserved c =
       room = (let less = room_closed t c.requires.0 every fs c.in-Some.frame b c.fold_frame.new.board c.loop-frame.proof (last c.requires.0 every c.requires.1) c.in_ok-whole.ensures.board c.in_ok-whole.ensures.bits c.in-Closed.whole
           (λ a d l k. subst (λ f. FoldsTo t every a d c.fold_frame.new.board f) c.in-Closed.is (c.in_ok-whole.ensures.folded every a d l k)) in
           omega (arith, less, c.loop-frame.invariant.room));
+      bits = c.in_ok-whole.ensures.bits ∙ c.loop-frame.invariant.bits;
       steps = omega (arith, held, found, c.in_ok-whole.ensures.steps, c.loop-frame.invariant.steps);
     }
+
+pub returns-clause-board : goal.returns-clause-board
+returns-clause-board c = (c.loop-frame.invariant.closing c.requires.0 every c.requires.1).board
 
 pub returns-in-Turned-clause-folded : goal.returns-in-Turned-clause-folded
 returns-in-Turned-clause-folded c X test h =

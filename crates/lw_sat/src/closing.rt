@@ -1,8 +1,8 @@
 // From a closed label down to the last branch point whose other side is open.
-ghost use Rattle.std.specs.Prelude.{◌≡◌, ℕ, ◌<◌, ◌≤◌, Bool, max, IfNone, IfOk};
+ghost use Rattle.std.specs.Prelude.{◌≡◌, ℕ, ◌<◌, ◌≤◌, Bool, max, IfNone, IfOk, OnOk};
 ghost use Rattle.lw_proof.specs.Lean.{steps};
 ghost use Rattle.lw_proof.specs.System.{Set};
-ghost use Rattle.lw_sat.specs.Path.{most_steps, room_below, spot_of};
+ghost use Rattle.lw_sat.specs.Path.{most_steps, room_below, spot_of, IsBoard};
 ghost use Rattle.lw_sat.specs.Saturated.{every, fold_steps, room, FoldsAll, IsClosing};
 
 use crate::board::Board;
@@ -23,6 +23,8 @@ pub fn unwind(
 ) -> Result<Option<Proof>, AllocError>
     requires { (X : Set ℕ) × IsClosing closure.now X every frames.old.items board.old proof }
     ensures folded { (X : Set ℕ) (test : Set ℕ → Bool) → IsClosing closure.now X test frames.old.items board.old proof → IfOk result (FoldsAll closure.now X test frames.new.items board.new) }
+    ensures board { OnOk result (IsBoard board.new) }
+    ensures bits { OnOk result (board.new.bits ≡ board.old.bits) }
     ensures falls { IfOk result (λ found. IfNone found (room board.new < room_below board.old.bits (spot_of board.old))) }
     ensures steps { IfOk result (λ found. fold_steps frames.new.items found ≤ max (most_steps frames.old.items) (steps proof)) }
 {
