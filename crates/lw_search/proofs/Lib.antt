@@ -1,0 +1,17 @@
+pub mod Counting
+pub mod Ranks
+pub mod Sides
+pub mod OwnPis
+pub mod Depths
+pub mod Leaning
+pub mod Bounding
+pub mod Answered
+pub mod Fragments
+pub mod Sounding
+pub mod Stepping
+pub mod Nesting
+pub mod Summing
+pub mod Working
+pub mod Planting
+pub mod Falling
+pub mod Starting

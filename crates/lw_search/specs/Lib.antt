@@ -1,0 +1,9 @@
+pub mod Step
+pub mod Ranked
+pub mod Explored
+pub mod Outcome
+pub mod Lacking
+pub mod Takes
+pub mod Sound
+pub mod Levels
+pub mod Turns

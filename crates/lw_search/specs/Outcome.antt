@@ -1,0 +1,20 @@
+-- What the loop of a search comes to.
+use Rattle.std.specs.Prelude.{ℕ, ◌≤◌, List}
+use Rattle.lw_formula.specs.Formula.{Formula}
+use Rattle.lw_proof.specs.System.{Set}
+use Rattle.lw_proof.specs.Lean.{steps}
+use Rattle.lw_closure.specs.Table.{Table}
+use Rattle.lw_sat.specs.Closing.{Closes}
+use Rattle.lw_search.specs.declared.outcome.Outcome.{Outcome}
+use Rattle.lw_search.specs.declared.outcome.Outcome.TheVariants.{Closed, Open}
+use Rattle.lw_search.specs.Explored.{IsExplored}
+use Rattle.lw_search.specs.Ranked.{IsGoal}
+
+-- the outcome for the set X: a proof that closes it, with at most n Steps on a path, or an open fragment that was explored from it in n steps
+abbrev pub IsOutcome : Table → ℕ → Set ℕ → Outcome → Type 0
+IsOutcome t n X (Closed p) = Closes t X p × (steps p ≤ n)
+IsOutcome t n X (Open f) = IsExplored t n X f
+
+-- the outcome for the goal of the closure, whose formulas a pool with the formulas ts has kept
+abbrev pub OutcomeFits : List Formula → Table → ℕ → Outcome → Type 0
+OutcomeFits ts t n outcome = (X : Set ℕ) × IsGoal ts t X × IsOutcome t n X outcome

@@ -1,0 +1,29 @@
+ghost use Rattle.std.specs.Prelude.{ℕ, ◌≤◌, IfOk};
+ghost use Rattle.lw_formula.specs.Formula.{depth, modal_count};
+ghost use Rattle.lw_pool.specs.Region.{tree_at};
+ghost use Rattle.lw_model.specs.Bounds.{step_bound};
+ghost use Rattle.lw_closure.specs.Keeps.{Keeps};
+ghost use Rattle.lw_counter.specs.Answered.{IsAnswerTo};
+ghost use Rattle.lw_search.specs.Outcome.{OutcomeFits};
+
+use crate::outcome::Outcome;
+use lw_closure::Closure;
+use lw_counter::Answer;
+use lw_pool::Pool;
+use std::alloc::AllocError;
+
+/// The answer that the outcome of a search makes: its proof, or the model of its fragment, whose world 0 refutes the goal.
+/// It fails for want of memory alone.
+pub fn answer(pool: &Pool, closure: &Closure, outcome: Outcome) -> Result<Answer, AllocError>
+    requires keeps { Keeps pool.now closure.now }
+    requires fits { (n : ℕ) × (n ≤ step_bound closure.now.logic (modal_count (tree_at pool.now closure.now.goal)) (depth (tree_at pool.now closure.now.goal))) × OutcomeFits pool.now closure.now n outcome }
+    ensures { IfOk result (IsAnswerTo closure.now.logic pool.now (tree_at pool.now closure.now.goal)) }
+{
+    match outcome {
+        Outcome::Closed(proof) => Ok(Answer::Yes(proof)),
+        Outcome::Open(fragment) => {
+            let model = fragment.close(closure, pool, closure.logic())?;
+            Ok(Answer::No(model, 0))
+        }
+    }
+}

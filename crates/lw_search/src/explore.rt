@@ -1,0 +1,78 @@
+// The loop of all tableau searches.
+ghost use Rattle.std.specs.Prelude.{◌≡◌, ℕ, ◌<◌, IfOk, [], ◌∷◌, None};
+ghost use Rattle.lw_closure.specs.Table.{item_count};
+ghost use Rattle.lw_closure.specs.Keeps.{Keeps};
+ghost use Rattle.lw_sat.specs.Path.{root, spot_of, IsBoard, IsWide};
+ghost use Rattle.lw_sat.specs.Sets.{among};
+ghost use Rattle.lw_search.specs.Outcome.{OutcomeFits};
+ghost use Rattle.lw_search.specs.Ranked.{IsRanked};
+
+use crate::level::{Level, Search, Turn};
+use crate::outcome::Outcome;
+use crate::rule::StepRule;
+use crate::turn::advance;
+use lw_closure::Closure;
+use lw_counter::Fragment;
+use lw_formula::Sign;
+use lw_pool::{Pool, SignedId};
+use lw_sat::Board;
+use std::alloc::{AllocError, Global};
+
+// A search whose first seed is the item alone.
+fn begin(alloc: Global, closure: &Closure, item: usize) -> Result<Search, AllocError>
+    requires { item < item_count closure.now }
+    ensures below { IfOk result (λ search. search.below.items ≡ []) }
+    ensures frames { IfOk result (λ search. search.level.frames.items ≡ []) }
+    ensures board { IfOk result (λ search. IsBoard search.level.board) }
+    ensures wide { IfOk result (λ search. IsWide closure.now search.level.board) }
+    ensures spot { IfOk result (λ search. spot_of search.level.board ≡ root (among (item ∷ []))) }
+    ensures parent { IfOk result (λ search. search.level.parent ≡ None) }
+    ensures fragment { IfOk result (λ search. search.fragment ≡ record { worlds = []; links = [] }) }
+{
+    let mut board = Board::new(alloc, 2 * closure.count())?;
+    board.add_side((item, None));
+    Ok(Search {
+        below: Vec::new(alloc),
+        level: Level {
+            frames: Vec::new(alloc),
+            board,
+            parent: None,
+            world: 0,
+            item: 0,
+        },
+        fragment: Fragment::new(alloc),
+    })
+}
+
+/// Looks for a proof that closes the set of the closure's goal under the sign F, or for an open fragment with it, by
+/// tableaux with the rule's steps. It fails for want of memory alone.
+pub fn explore<R: StepRule>(
+    alloc: Global,
+    pool: &Pool,
+    closure: &Closure,
+    rule: &R,
+) -> Result<Outcome, AllocError>
+    requires logic { closure.now.logic ≡ R.logic }
+    requires keeps { Keeps pool.now closure.now }
+    requires ranked { IsRanked R.logic R.suffice R.bound }
+    ensures { IfOk result (OutcomeFits pool.now closure.now (R.bound pool.now closure.now)) }
+{
+    let goal = SignedId {
+        sign: Sign::F,
+        form: closure.goal(),
+    };
+    let Some(item) = closure.number(goal) else {
+        unreachable!()
+    };
+    let mut search = begin(alloc, closure, item)?;
+    loop {
+        match advance(alloc, closure, rule, &mut search)? {
+            Turn::Moved => {}
+            Turn::Done => {
+                let Search { fragment, .. } = search;
+                return Ok(Outcome::Open(fragment));
+            }
+            Turn::Closed(proof) => return Ok(Outcome::Closed(proof)),
+        }
+    }
+}

@@ -1,0 +1,64 @@
+// From a closed seed down to the last label that has another branch.
+ghost use Rattle.std.specs.Prelude.{◌≡◌, ◌<◌, ◌≤◌, IfOk};
+ghost use Rattle.lw_proof.specs.Lean.{steps};
+ghost use Rattle.lw_sat.specs.Path.{root, IsBoard, IsClosedAt, IsWide};
+ghost use Rattle.lw_search.specs.Levels.{Aim, Guides, IsFallen, Place, Waits};
+ghost use Rattle.lw_search.specs.Turns.{FallFits, ReopensOrCloses};
+
+use crate::level::{Level, Search};
+use crate::rule::StepRule;
+use crate::used::{step_over, use_step};
+use lw_closure::Closure;
+use lw_proof::Proof;
+use lw_sat::{Board, unwind};
+use std::alloc::{AllocError, Global};
+use std::mem;
+
+// Closes the label of a level that waits, where the proof closes the seed of its step, and the board above has the items
+// that the proof uses.
+fn close_label<R: StepRule>(
+    alloc: Global,
+    closure: &Closure,
+    rule: &R,
+    level: &mut Level,
+    above: Board,
+    proof: Proof,
+) -> Result<Option<Proof>, AllocError>
+    requires logic { closure.now.logic ≡ R.logic }
+    requires waits { (aim : Aim) × (a : Place) × (b : Place) × Guides closure.now aim.rank × Waits closure.now aim a level.old b × IsClosedAt closure.now (root b.seed) above proof }
+    requires board { IsBoard above }
+    requires wide { IsWide closure.now above }
+    ensures { (aim : Aim) (a b : Place) → Guides closure.now aim.rank → Waits closure.now aim a level.old b → IsClosedAt closure.now (root b.seed) above proof → steps proof ≤ b.left → IfOk result (ReopensOrCloses closure.now aim a level.old level.new) }
+{
+    let mut above = above;
+    let item = level.item;
+    use_step(closure, rule, &mut level.board, &mut above, item);
+    let whole = step_over(alloc, closure, item, proof)?;
+    let found = unwind(alloc, closure, &mut level.frames, &mut level.board, whole)?;
+    Ok(found)
+}
+
+/// Takes off the levels whose seeds the proof closes. Gives None where a label is under work again, and a proof that
+/// closes the first seed where no level is left. After an error nothing is known of the search.
+pub fn fall<R: StepRule>(
+    alloc: Global,
+    closure: &Closure,
+    rule: &R,
+    search: &mut Search,
+    proof: Proof,
+) -> Result<Option<Proof>, AllocError>
+    requires logic { closure.now.logic ≡ R.logic }
+    requires fallen { (aim : Aim) × IsFallen closure.now aim search.old proof }
+    ensures { (aim : Aim) → IsFallen closure.now aim search.old proof → IfOk result (FallFits closure.now aim search.old search.new) }
+{
+    let mut proof = proof;
+    while let Some(level) = search.below.pop() {
+        let above = mem::replace(&mut search.level, level);
+        search.fragment.cut(search.level.world);
+        match close_label(alloc, closure, rule, &mut search.level, above.board, proof)? {
+            None => return Ok(None),
+            Some(whole) => proof = whole,
+        }
+    }
+    Ok(Some(proof))
+}
