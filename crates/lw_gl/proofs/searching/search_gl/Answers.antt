@@ -1,0 +1,5 @@
+use Rattle.lw_gl.proofs.Ranked.{ranked}
+use Rattle.lw_gl.proofs.searching.search_gl.Goals as goal
+
+pub search-requires-clause-ranked : goal.search-requires-clause-ranked
+search-requires-clause-ranked c = ranked

@@ -1,0 +1,5 @@
+use Rattle.lw_k.proofs.Ranked.{ranked}
+use Rattle.lw_k.proofs.searching.search_by.Goals as goal
+
+pub search-requires-clause-ranked : goal.search-requires-clause-ranked
+search-requires-clause-ranked g c = ranked _

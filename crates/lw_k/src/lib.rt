@@ -1,0 +1,7 @@
+//! The search in K and KT: each step goes to formulas of a smaller modal depth.
+#![tactic(auto)]
+
+mod searching;
+mod steps;
+
+pub use searching::search_k;

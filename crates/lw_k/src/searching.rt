@@ -1,0 +1,46 @@
+ghost use Rattle.std.specs.Prelude.{◌≡◌, ◌⊎◌, IfOk};
+ghost use Rattle.lw_pool.specs.Region.{tree_at};
+ghost use Rattle.lw_closure.specs.Keeps.{Keeps};
+ghost use Rattle.lw_counter.specs.Answered.{IsAnswerTo};
+ghost use Rattle.lw_k.specs.Depth.{logic_of};
+
+use crate::steps::Steps;
+use lw_closure::Closure;
+use lw_counter::Answer;
+use lw_formula::Logic;
+use lw_pool::Pool;
+use lw_search::search;
+use std::alloc::{AllocError, Global};
+
+/// A proof of the closure's goal in K or KT, or a model that refutes it. The closure is one that was made for the
+/// logic, and the pool has kept its formulas. It fails for want of memory alone.
+pub fn search_k(
+    alloc: Global,
+    pool: &Pool,
+    closure: &Closure,
+    logic: Logic,
+) -> Result<Answer, AllocError>
+    requires built { (logic ≡ Logic.K) ⊎ (logic ≡ Logic.KT) }
+    requires logic { closure.now.logic ≡ logic }
+    requires keeps { Keeps pool.now closure.now }
+    ensures { IfOk result (IsAnswerTo logic pool.now (tree_at pool.now closure.now.goal)) }
+{
+    match logic {
+        Logic::K => search_by::<false>(alloc, pool, closure),
+        Logic::KT => search_by::<true>(alloc, pool, closure),
+        _ => unreachable!(),
+    }
+}
+
+/// The search in KT, whose worlds are reflexive, or else in K.
+fn search_by<const REFLEXIVE: bool>(
+    alloc: Global,
+    pool: &Pool,
+    closure: &Closure,
+) -> Result<Answer, AllocError>
+    requires logic { closure.now.logic ≡ logic_of REFLEXIVE }
+    requires keeps { Keeps pool.now closure.now }
+    ensures { IfOk result (IsAnswerTo (logic_of REFLEXIVE) pool.now (tree_at pool.now closure.now.goal)) }
+{
+    search(alloc, pool, closure, &Steps::<REFLEXIVE>)
+}

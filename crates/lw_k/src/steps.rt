@@ -1,0 +1,36 @@
+ghost use Rattle.lw_k.specs.Depth.{by_depth, goal_depth, logic_of};
+
+use lw_closure::Closure;
+use lw_search::StepRule;
+
+/// The steps of KT where worlds see themselves, and else those of K: to the component of a π, with the components of
+/// the label's ν.
+pub(crate) struct Steps<const REFLEXIVE: bool>;
+
+impl<const REFLEXIVE: bool> StepRule for Steps<REFLEXIVE> {
+    ghost logic = { logic_of REFLEXIVE };
+
+    ghost suffice = { by_depth };
+
+    ghost bound = { goal_depth };
+
+    fn is_reflexive(&self) -> bool {
+        REFLEXIVE
+    }
+
+    fn has_links(&self) -> bool {
+        false
+    }
+
+    fn keeps_nu(&self) -> bool {
+        false
+    }
+
+    fn keeps_inside(&self) -> bool {
+        true
+    }
+
+    fn beside(&self, _closure: &Closure, _item: usize) -> Option<usize> {
+        None
+    }
+}
