@@ -1,0 +1,22 @@
+ghost use Rattle.std.specs.Prelude.{◌≡◌, IfOk};
+ghost use Rattle.lw_pool.specs.Region.{tree_at};
+ghost use Rattle.lw_closure.specs.Keeps.{Keeps};
+ghost use Rattle.lw_counter.specs.Answered.{IsAnswerTo};
+
+use crate::steps::GuardedSteps;
+use lw_closure::Closure;
+use lw_counter::Answer;
+use lw_formula::Logic;
+use lw_pool::Pool;
+use lw_search::search;
+use std::alloc::{AllocError, Global};
+
+/// A proof of the closure's goal in Grz, or a model that refutes it. The closure is one that was made for Grz, and the
+/// pool has kept its formulas. It fails for want of memory alone.
+pub fn search_grz(alloc: Global, pool: &Pool, closure: &Closure) -> Result<Answer, AllocError>
+    requires logic { closure.now.logic ≡ Logic.Grz }
+    requires keeps { Keeps pool.now closure.now }
+    ensures { IfOk result (IsAnswerTo Logic.Grz pool.now (tree_at pool.now closure.now.goal)) }
+{
+    search(alloc, pool, closure, &GuardedSteps)
+}

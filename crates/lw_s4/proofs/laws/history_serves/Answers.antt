@@ -1,0 +1,5 @@
+use Rattle.lw_s4.proofs.Serving.{serves}
+use Rattle.lw_s4.proofs.laws.history_serves.Goals as goal
+
+pub returns : goal.returns
+returns c = λ t path X item k table logic. serves t table logic path X item k
