@@ -1,0 +1,4 @@
+pub mod Listed
+pub mod Labels
+pub mod Children
+pub mod Around
