@@ -1,0 +1,10 @@
+pub mod Runs
+pub mod Reaching
+pub mod Wording
+pub mod Arriving
+pub mod Growing
+pub mod Splitting
+pub mod Reading
+pub mod Concluding
+pub mod Arrived
+pub mod Telling

@@ -1,0 +1,5 @@
+use Rattle.lw_cert.proofs.Telling.{one-certificate}
+use Rattle.lw_cert.proofs.laws.one_certificate.Goals as goal
+
+pub returns : goal.returns
+returns c = λ text. one-certificate c.one_tree.ensures text

@@ -1,0 +1,96 @@
+ghost use Rattle.std.specs.Prelude.{◌≡◌, ◌≢◌, ℕ, ◌++◌, ◌^◌, ◌<◌, List, MatchOption, IfOk, codes};
+ghost use Rattle.std.specs.Fmt.{decimal};
+ghost use Rattle.lw_formula.specs.Logic.{word_of};
+ghost use Rattle.lw_formula.specs.declared.logic.Logic.{Logic};
+ghost use Rattle.lw_formula.specs.declared.sign.Sign.{Sign};
+ghost use Rattle.lw_proof.specs.declared.rule.Rule.{Rule};
+ghost use Rattle.lw_cert.specs.Lines.{rule_word, sign_word};
+
+use lw_formula::{Logic, Sign};
+use lw_proof::Rule;
+use std::alloc::{AllocError, Global};
+use std::str::from_utf8;
+
+/// What stands behind the word, where the line begins with it.
+pub fn after<'a>(line: &'a [u8], word: &[u8]) -> Option<&'a [u8]>
+    ensures { MatchOption result ((rest : List ℕ) → line.now ≢ word.now ++ rest) (λ rest. line.now ≡ word.now ++ rest.now) }
+{
+    line.strip_prefix(word)
+}
+
+/// The logic of a word.
+pub fn logic_of(word: &[u8]) -> Option<Logic>
+    ensures { MatchOption result ((logic : Logic) → word.now ≢ word_of logic) (λ logic. word.now ≡ word_of logic) }
+{
+    if word == b"k".as_slice() {
+        Some(Logic::K)
+    } else if word == b"kt".as_slice() {
+        Some(Logic::KT)
+    } else if word == b"s4".as_slice() {
+        Some(Logic::S4)
+    } else if word == b"s5".as_slice() {
+        Some(Logic::S5)
+    } else if word == b"gl".as_slice() {
+        Some(Logic::GL)
+    } else if word == b"grz".as_slice() {
+        Some(Logic::Grz)
+    } else {
+        None
+    }
+}
+
+/// The rule whose word with its space the line begins with, and what stands behind it.
+pub fn rule_of(line: &[u8]) -> Option<(Rule, &[u8])>
+    ensures { MatchOption result ((rule : Rule) (rest : List ℕ) → line.now ≢ rule_word rule ++ rest)
+        (λ found. line.now ≡ rule_word found.0 ++ found.1.now) }
+{
+    if let Some(rest) = after(line, b"close ") {
+        Some((Rule::Close, rest))
+    } else if let Some(rest) = after(line, b"absurd ") {
+        Some((Rule::Absurd, rest))
+    } else if let Some(rest) = after(line, b"one ") {
+        Some((Rule::One, rest))
+    } else if let Some(rest) = after(line, b"two ") {
+        Some((Rule::Two, rest))
+    } else if let Some(rest) = after(line, b"refl ") {
+        Some((Rule::Refl, rest))
+    } else if let Some(rest) = after(line, b"step ") {
+        Some((Rule::Step, rest))
+    } else if let Some(rest) = after(line, b"cut ") {
+        Some((Rule::Cut, rest))
+    } else {
+        None
+    }
+}
+
+/// The sign with its space that the text begins with, and what stands behind it.
+pub fn sign_of(text: &[u8]) -> Option<(Sign, &[u8])>
+    ensures { MatchOption result ((sign : Sign) (rest : List ℕ) → text.now ≢ sign_word sign ++ rest)
+        (λ found. text.now ≡ sign_word found.0 ++ found.1.now) }
+{
+    if let Some(rest) = after(text, b"T ") {
+        Some((Sign::T, rest))
+    } else if let Some(rest) = after(text, b"F ") {
+        Some((Sign::F, rest))
+    } else {
+        None
+    }
+}
+
+/// The number that the word writes in decimal without leading zeros. It fails for want of memory alone.
+pub fn number(alloc: Global, word: &[u8]) -> Result<Option<usize>, AllocError>
+    ensures { IfOk result (λ found. MatchOption found ((n : ℕ) → n < 2 ^ 64 → word.now ≢ decimal n) (λ n. word.now ≡ decimal n)) }
+{
+    let Ok(text) = from_utf8(word) else {
+        return Ok(None);
+    };
+    let Ok(number) = text.parse::<usize>() else {
+        return Ok(None);
+    };
+    let printed = format!(in alloc; "{number}")?;
+    if printed.as_bytes() == word {
+        Ok(Some(number))
+    } else {
+        Ok(None)
+    }
+}
