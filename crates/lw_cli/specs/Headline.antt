@@ -6,7 +6,7 @@ use Rattle.lw_io.specs.Files.{Files, IsHeld, IsSure}
 use Rattle.lw_io.specs.Written.{Adds, AddsPart}
 use Rattle.lw_cli.specs.declared.asked.Command.{Command}
 use Rattle.lw_cli.specs.Asked.{command_of, file_of}
-use Rattle.lw_cli.specs.Outcome.{Outcome}
+use Rattle.lw_cli.specs.Commands.{Outcome}
 
 -- the command allows this output and this status over the file that the store holds
 pub record IsOutput (command : Command) (holds : Option Files) (out : List ℕ) (status : ℕ) : Type 0 where

@@ -3,4 +3,8 @@ pub mod Asked
 pub mod Lines
 pub mod Outcome
 pub mod Steps
+pub mod FindingLines
+pub mod Checked
+pub mod CheckSteps
+pub mod Commands
 pub mod Headline

@@ -2,14 +2,13 @@
 use Rattle.std.specs.Prelude.{◌≡◌, ℕ, ◌<◌, ◌≤◌, List, length, Option}
 use Rattle.lw_io.specs.Files.{Files, IsHeld}
 use Rattle.lw_formula.specs.declared.logic.Logic.{Logic}
-use Rattle.lw_formula.specs.Formula.{Formula, depth}
+use Rattle.lw_formula.specs.Formula.{Formula, subformula_count}
 use Rattle.lw_formula.specs.Validity.{Valid}
+use Rattle.lw_closure.specs.declared.fault.TheConstants.{SUBFORMULA_LIMIT}
 use Rattle.lw_read.specs.declared.fault.ReadFault.{ReadFault}
 use Rattle.lw_read.specs.Grammar.{ReadsAs, IsFaultOf}
-use Rattle.lw_cli.specs.declared.asked.Command.{Command}
-use Rattle.lw_cli.specs.declared.asked.Command.TheVariants.{Prove}
 use Rattle.lw_cli.specs.declared.answer.Answer.{Answer}
-use Rattle.lw_cli.specs.declared.answer.Answer.TheVariants.{FileLimit, Syntax, NotBuilt, Yes, No}
+use Rattle.lw_cli.specs.declared.answer.Answer.TheVariants.{FileLimit, Syntax, TooLarge, Yes, No}
 use Rattle.lw_cli.specs.declared.answer.SyntaxWhy.{SyntaxWhy}
 use Rattle.lw_cli.specs.declared.place.Place.{Place}
 use Rattle.lw_cli.specs.Place.{line_at, column_at}
@@ -33,9 +32,9 @@ IsFirstFault text place why = (at : ℕ) × IsFaultOf text (fault_at why at) × 
 pub data IsAnswer (logic : Logic) (bytes : List ℕ) : Answer → Type 0 where
   too_long : file_limit < length bytes → IsAnswer logic bytes FileLimit
   refused : (place : Place) (why : SyntaxWhy) → length bytes ≤ file_limit → IsFirstFault bytes place why → IsAnswer logic bytes (Syntax place why)
-  not_built : (a : Formula) → length bytes ≤ file_limit → ReadsAs bytes a → 0 < depth a → IsAnswer logic bytes NotBuilt
-  valid : (a : Formula) → length bytes ≤ file_limit → ReadsAs bytes a → depth a ≡ 0 → Valid logic a → IsAnswer logic bytes Yes
-  not_valid : (a : Formula) → length bytes ≤ file_limit → ReadsAs bytes a → depth a ≡ 0 → ¬ Valid logic a → IsAnswer logic bytes No
+  too_large : (a : Formula) (n : ℕ) → length bytes ≤ file_limit → ReadsAs bytes a → n ≡ subformula_count a → SUBFORMULA_LIMIT < n → IsAnswer logic bytes (TooLarge n)
+  valid : (a : Formula) → length bytes ≤ file_limit → ReadsAs bytes a → subformula_count a ≤ SUBFORMULA_LIMIT → Valid logic a → IsAnswer logic bytes Yes
+  not_valid : (a : Formula) → length bytes ≤ file_limit → ReadsAs bytes a → subformula_count a ≤ SUBFORMULA_LIMIT → ¬ Valid logic a → IsAnswer logic bytes No
 
 -- what is to be said of the named file, where the files are told
 abbrev pub IsAnswerOf : Logic → Option Files → List ℕ → Answer → Type 0
@@ -47,7 +46,3 @@ pub record ProveOutcome (logic : Logic) (bytes out : List ℕ) (status : ℕ) : 
   pub is_answer : IsAnswer logic bytes answer
   pub line : out ≡ line_of answer
   pub ending : status ≡ status_of answer
-
--- the command allows this output and this status over a file of these bytes
-abbrev pub Outcome : Command → List ℕ → List ℕ → ℕ → Type 0
-Outcome (Prove logic file) bytes out status = ProveOutcome logic bytes out status

@@ -35,8 +35,8 @@ pub enum Answer {
     FileLimit,
     /// The file's text has its first fault at this place.
     Syntax(Place, SyntaxWhy),
-    /// The file's formula isn't one that this build decides.
-    NotBuilt,
+    /// The file's formula has more distinct subformulas than it may have: so many.
+    TooLarge(usize),
     /// The formula is valid.
     Yes,
     /// The formula isn't valid.
@@ -51,7 +51,7 @@ impl Answer {
         match self {
             Answer::FileLimit => String::from_str(alloc, "fault: file limit\n"),
             Answer::Syntax(place, why) => syntax_line(alloc, place, why),
-            Answer::NotBuilt => String::from_str(alloc, "fault: not built\n"),
+            Answer::TooLarge(count) => format!(in alloc; "fault: too large {count}\n"),
             Answer::Yes => String::from_str(alloc, "yes\n"),
             Answer::No => String::from_str(alloc, "no\n"),
         }
@@ -63,7 +63,7 @@ impl Answer {
         ensures small { result ≤ 1 }
     {
         match self {
-            Answer::FileLimit | Answer::Syntax(..) | Answer::NotBuilt => 1,
+            Answer::FileLimit | Answer::Syntax(..) | Answer::TooLarge(_) => 1,
             Answer::Yes | Answer::No => 0,
         }
     }

@@ -41,4 +41,6 @@ impl FileName {
 pub enum Command {
     /// Whether the formula of the file is valid in the logic.
     Prove(Logic, FileName),
+    /// Whether the certificate of the file shows what it claims.
+    Check(FileName),
 }

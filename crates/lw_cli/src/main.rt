@@ -1,8 +1,12 @@
-//! The workbench's program: `prove k FILE` reads a formula and writes whether it is valid in K.
+//! The workbench's program: `prove LOGIC FILE` reads a formula and writes whether it is valid in the logic, and
+//! `check FILE` reads a certificate and writes whether it shows what it claims.
 #![tactic(auto)]
 
 mod answer;
 mod asked;
+mod check_file;
+mod finding;
+mod logic_word;
 mod place;
 mod prove;
 #[cfg(test)]
@@ -12,6 +16,7 @@ mod workbench;
 
 pub use answer::{Answer, SyntaxWhy};
 pub use asked::{Command, FileName};
+pub use finding::Finding;
 use lw_io::{DiskStore, StdSink};
 pub use place::{Place, place_of};
 use std::env;

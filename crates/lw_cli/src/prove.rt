@@ -10,25 +10,26 @@ ghost use Rattle.lw_cli.specs.Headline.{Answers, AnswersPart, IsUnsureOf};
 use crate::answer::{Answer, SyntaxWhy};
 use crate::asked::{Command, FileName};
 use crate::place::place_of;
+use lw_counter::Answer as Decision;
+use lw_decide::{DecideFault, decide};
 use lw_formula::{Form, Logic};
 use lw_io::{FetchFault, Sink, Store};
+use lw_pool::Pool;
 use lw_read::{ReadFault, read_formula};
-use lw_sat::saturated;
 use std::alloc::{AllocError, Global};
 
 /// The greatest number of bytes of a file that is read.
-const FILE_LIMIT: usize = 1_048_576;
+pub const FILE_LIMIT: usize = 1_048_576;
 
 /// What is to be said of a file of these bytes. It fails for want of memory alone.
 fn answer_to(alloc: Global, logic: Logic, bytes: &[u8]) -> Result<Answer, AllocError>
-    requires { logic ≡ Logic.K }
     ensures { IfOk result (IsAnswer logic bytes.now) }
 {
     if bytes.len() > FILE_LIMIT {
         return Ok(Answer::FileLimit);
     }
     match read_formula(alloc, bytes) {
-        Ok(form) => decision(alloc, &form),
+        Ok(form) => decision(alloc, logic, &form),
         Err(fault) => refusal(bytes, &fault),
     }
 }
@@ -48,16 +49,16 @@ fn refusal(bytes: &[u8], fault: &ReadFault) -> Result<Answer, AllocError>
 }
 
 // What is to be said of the formula.
-fn decision(alloc: Global, form: &Form) -> Result<Answer, AllocError>
-    ensures { IfOk result (IsDecision Logic.K (tree_of form.now)) }
+fn decision(alloc: Global, logic: Logic, form: &Form) -> Result<Answer, AllocError>
+    ensures { IfOk result (IsDecision logic (tree_of form.now)) }
 {
-    if form.modal_depth() > 0 {
-        return Ok(Answer::NotBuilt);
-    }
-    if saturated(alloc, form)? {
-        Ok(Answer::Yes)
-    } else {
-        Ok(Answer::No)
+    let mut pool = Pool::new(alloc);
+    let goal = pool.from_form(form)?;
+    match decide(alloc, &mut pool, logic, goal) {
+        Ok(Decision::Yes(_)) => Ok(Answer::Yes),
+        Ok(Decision::No(..)) => Ok(Answer::No),
+        Err(DecideFault::TooLarge { count }) => Ok(Answer::TooLarge(count)),
+        Err(DecideFault::Memory) => Err(AllocError),
     }
 }
 
@@ -68,7 +69,6 @@ fn answer_file<S: Store>(
     file: &FileName,
     store: &mut S,
 ) -> Result<Answer, FetchFault>
-    requires { logic ≡ Logic.K }
     ensures answer { IfOk result (IsAnswerOf logic (S.holds store.old) file.now) }
     ensures cause { IsErrOf result FetchFault.Failed → Rose (S.faults store.old) (S.faults store.new) }
     ensures unsure { IsErrOf result FetchFault.Failed → ¬ IsSure (S.sure store.old) (S.holds store.old) file.now }
@@ -88,7 +88,6 @@ pub fn prove<S: Store, K: Sink>(
     store: &mut S,
     sink: &mut K,
 ) -> u8
-    requires { logic ≡ Logic.K }
     ensures carried_out { (result ≡ 0) ⊎ (result ≡ 1) → Answers (Command.Prove logic file.now) (S.holds store.old) (K.written sink.old) (K.written sink.new) result }
     ensures no_refusal { result ≢ 2 }
     ensures store_failed { result ≡ 3 → Rose (S.faults store.old) (S.faults store.new) }

@@ -37,8 +37,6 @@ fn answers_files(rt: HostRuntime) -> Result<(), Fail> {
         ("p <-> ~~p", 0, "yes\n"),
         ("true -> false", 0, "no\n"),
         ("((p -> q) -> p) -> p", 0, "yes\n"),
-        ("box p", 1, "fault: not built\n"),
-        ("p & dia true", 1, "fault: not built\n"),
         ("p &", 1, "fault: line 1 column 4: unexpected\n"),
         ("", 1, "fault: line 1 column 1: unexpected\n"),
         (
@@ -51,6 +49,52 @@ fn answers_files(rt: HostRuntime) -> Result<(), Fail> {
         let (ended, written) = run(rt.alloc(), &["prove", "k", FILE], text.as_bytes(), 64)?;
         assert_eq!(rt; ended, status, "at {text}");
         assert_eq!(rt; written.as_slice(), line.as_bytes(), "at {text}");
+    }
+    Ok(())
+}
+
+#[test]
+fn decides_in_each_logic(rt: HostRuntime) -> Result<(), Fail> {
+    let cases = [
+        ("k", "box(p -> q) -> (box p -> box q)", "yes\n"),
+        ("k", "box p -> p", "no\n"),
+        ("k", "box(box p -> p) -> box p", "no\n"),
+        ("kt", "box p -> p", "yes\n"),
+        ("kt", "box p -> box box p", "no\n"),
+        ("gl", "box(box p -> p) -> box p", "yes\n"),
+        ("gl", "~box false -> ~box ~box false", "yes\n"),
+        ("gl", "box p -> p", "no\n"),
+        ("gl", "dia true", "no\n"),
+        ("s4", "box dia box dia p <-> box dia p", "yes\n"),
+        ("s4", "box dia p -> dia box p", "no\n"),
+        ("s4", "dia p -> box dia p", "no\n"),
+        ("s4", "box(box(p -> box p) -> p) -> p", "no\n"),
+        ("s5", "dia p -> box dia p", "yes\n"),
+        ("s5", "box dia p -> dia box p", "no\n"),
+        ("grz", "box(box(p -> box p) -> p) -> p", "yes\n"),
+        ("grz", "box dia p -> dia box p", "yes\n"),
+        ("grz", "box(box p -> p) -> box p", "no\n"),
+    ];
+    for (logic, text, line) in cases {
+        let (ended, written) = run(rt.alloc(), &["prove", logic, FILE], text.as_bytes(), 64)?;
+        assert_eq!(rt; ended, 0, "at {text}");
+        assert_eq!(rt; written.as_slice(), line.as_bytes(), "at {text}");
+    }
+    Ok(())
+}
+
+// `p` under so many boxes has one distinct subformula more.
+#[test]
+fn decides_up_to_128_distinct_subformulas(rt: HostRuntime) -> Result<(), Fail> {
+    for (boxes, status, line) in [(127, 0, "no\n"), (128, 1, "fault: too large 129\n")] {
+        let mut bytes = Vec::new(rt.alloc());
+        for _ in 0..boxes {
+            bytes.extend_from_slice(b"box ")?;
+        }
+        bytes.push(b'p')?;
+        let (ended, written) = run(rt.alloc(), &["prove", "k", FILE], bytes.as_slice(), 64)?;
+        assert_eq!(rt; ended, status, "at {boxes}");
+        assert_eq!(rt; written.as_slice(), line.as_bytes(), "at {boxes}");
     }
     Ok(())
 }
@@ -97,8 +141,65 @@ fn says_what_failed(rt: HostRuntime) -> Result<(), Fail> {
         (&["prove", "k", FILE], 0, 4),
         (&[], 64, 2),
         (&["prove", "k"], 64, 2),
-        (&["prove", "kt", FILE], 64, 2),
+        (&["prove", "s6", FILE], 64, 2),
         (&["prove", "k", FILE, FILE], 64, 2),
+    ];
+    for (words, room, status) in cases {
+        let (ended, written) = run(rt.alloc(), words, b"true", room)?;
+        assert_eq!(rt; ended, status);
+        assert_eq!(rt; written.len(), 0);
+    }
+    Ok(())
+}
+
+#[test]
+fn checks_certificates(rt: HostRuntime) -> Result<(), Fail> {
+    let proof = "formula box p -> p\nproof\none F box p -> p\nrefl T box p\nclose T p\n";
+    let model = "formula box p -> p\nmodel\nworlds 1\n";
+    let cases = [
+        ("kt", proof, "end\n", 0, "accepted\n"),
+        ("k", proof, "end\n", 1, "rejected: step 2\n"),
+        ("kt", proof, "", 1, "fault: line 8: proof text\n"),
+        ("kt", proof, "end\nend\n", 1, "fault: line 9: proof text\n"),
+        (
+            "k",
+            model,
+            "refuted 0\nworld 0 sees true\nend\n",
+            0,
+            "accepted\n",
+        ),
+        (
+            "kt",
+            model,
+            "refuted 0\nworld 0 sees true\nend\n",
+            1,
+            "rejected: model\n",
+        ),
+        ("k", model, "refuted 1\n", 1, "fault: line 6: model text\n"),
+        (
+            "k",
+            model,
+            "refuted 0\nworld 0 sees 1 true\n",
+            1,
+            "fault: line 7: model text\n",
+        ),
+    ];
+    for (logic, begun, rest, status, line) in cases {
+        let text = format!(in rt.alloc(); "certificate 1\nlogic {logic}\n{begun}{rest}")?;
+        let (ended, written) = run(rt.alloc(), &["check", FILE], text.as_bytes(), 64)?;
+        assert_eq!(rt; ended, status, "at {text}");
+        assert_eq!(rt; written.as_slice(), line.as_bytes(), "at {text}");
+    }
+    Ok(())
+}
+
+#[test]
+fn a_check_without_its_file_fails(rt: HostRuntime) -> Result<(), Fail> {
+    let cases: [(&[&str], usize, u8); 4] = [
+        (&["check", "another.txt"], 64, 3),
+        (&["check", FILE], 0, 4),
+        (&["check"], 64, 2),
+        (&["check", FILE, FILE], 64, 2),
     ];
     for (words, room, status) in cases {
         let (ended, written) = run(rt.alloc(), words, b"true", room)?;

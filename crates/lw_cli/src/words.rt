@@ -2,18 +2,26 @@ ghost use Rattle.std.specs.Prelude.{◌≡◌, map, string_bytes, IfOk, OnErr, I
 ghost use Rattle.lw_cli.specs.Asked.{command_of};
 
 use crate::asked::{Command, FileName};
-use lw_formula::Logic;
+use crate::logic_word::logic_named;
 use std::alloc::{AllocError, Global};
 
-/// The command of the words after the program's name, and `None` exactly where they are none of its shapes. There is
-/// one shape, `prove k FILE`. It fails for want of memory alone, and then the words are a command.
+/// The command of the words after the program's name, and `None` exactly where they are none of its shapes. There are
+/// two shapes, `prove LOGIC FILE`, where LOGIC is the word of a logic, and `check FILE`. It fails for want of memory
+/// alone, and then the words are a command.
 pub fn command(alloc: Global, words: &[String]) -> Result<Option<Command>, AllocError>
     ensures ok { IfOk result (λ command. command ≡ command_of (map string_bytes words.now)) }
     ensures err { OnErr result (IsSome (command_of (map string_bytes words.now))) }
 {
     match words {
-        [verb, logic, file] if verb.as_str() == "prove" && logic.as_str() == "k" => {
-            Ok(Some(Command::Prove(Logic::K, FileName::from_text(alloc, file.as_str())?)))
+        [verb, logic, file] if verb.as_str() == "prove" => match logic_named(logic.as_str()) {
+            Some(logic) => Ok(Some(Command::Prove(
+                logic,
+                FileName::from_text(alloc, file.as_str())?,
+            ))),
+            None => Ok(None),
+        },
+        [verb, file] if verb.as_str() == "check" => {
+            Ok(Some(Command::Check(FileName::from_text(alloc, file.as_str())?)))
         }
         _ => Ok(None),
     }

@@ -4,6 +4,7 @@ ghost use Rattle.lw_cli.specs.Asked.{command_of};
 ghost use Rattle.lw_cli.specs.Headline.{AsksFor, Answers, AnswersPart, IsUnsureOf};
 
 use crate::asked::Command;
+use crate::check_file::check_file;
 use crate::prove::prove;
 use crate::words::command;
 use lw_io::{Sink, Store};
@@ -45,5 +46,6 @@ pub fn workbench<S: Store, K: Sink>(
         Err(_) => 5,
         Ok(None) => 2,
         Ok(Some(Command::Prove(logic, file))) => prove(alloc, logic, &file, store, sink),
+        Ok(Some(Command::Check(file))) => check_file(alloc, &file, store, sink),
     }
 }

@@ -1,4 +1,4 @@
-use Rattle.std.proofs.Common.{◌≡◌, refl, subst, ◌∙◌}
+use Rattle.std.proofs.Common.{refl, subst, ◌∙◌}
 use Rattle.lw_io.specs.Written.{AddsPart}
 use Rattle.lw_cli.specs.Lines.{line_of, status_of}
 use Rattle.lw_cli.proofs.prove.prove.Goals as goal
