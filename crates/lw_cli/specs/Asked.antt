@@ -2,21 +2,9 @@
 use Rattle.std.specs.Prelude.{ℕ, List, [], ◌∷◌, Option, Some, None, if◌then◌else◌, codes}
 use Rattle.std.specs.Option.{option_map}
 use Rattle.std.specs.Str.{bytes_eq}
-use Rattle.lw_formula.specs.declared.logic.Logic.{Logic}
-use Rattle.lw_formula.specs.declared.logic.Logic.TheVariants.{K, KT, S4, S5, GL, Grz}
-use Rattle.lw_formula.specs.Logic.{word_of}
+use Rattle.lw_formula.specs.Logic.{logic_of}
 use Rattle.lw_cli.specs.declared.asked.Command.{Command}
 use Rattle.lw_cli.specs.declared.asked.Command.TheVariants.{Prove, Check}
-
--- the logic that the word stands for, if it is the word of one
-abbrev pub logic_of : List ℕ → Option Logic
-logic_of word =
-    if bytes_eq word (word_of K) then Some K else
-    if bytes_eq word (word_of KT) then Some KT else
-    if bytes_eq word (word_of S4) then Some S4 else
-    if bytes_eq word (word_of S5) then Some S5 else
-    if bytes_eq word (word_of GL) then Some GL else
-    if bytes_eq word (word_of Grz) then Some Grz else None
 
 -- the command of the words: `prove LOGIC FILE` or `check FILE`, and no other words are one
 abbrev pub command_of : List (List ℕ) → Option Command

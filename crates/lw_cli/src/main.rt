@@ -6,7 +6,6 @@ mod answer;
 mod asked;
 mod check_file;
 mod finding;
-mod logic_word;
 mod place;
 mod prove;
 #[cfg(test)]

@@ -2,7 +2,7 @@ ghost use Rattle.std.specs.Prelude.{◌≡◌, map, string_bytes, IfOk, OnErr, I
 ghost use Rattle.lw_cli.specs.Asked.{command_of};
 
 use crate::asked::{Command, FileName};
-use crate::logic_word::logic_named;
+use lw_formula::Logic;
 use std::alloc::{AllocError, Global};
 
 /// The command of the words after the program's name, and `None` exactly where they are none of its shapes. There are
@@ -13,13 +13,13 @@ pub fn command(alloc: Global, words: &[String]) -> Result<Option<Command>, Alloc
     ensures err { OnErr result (IsSome (command_of (map string_bytes words.now))) }
 {
     match words {
-        [verb, logic, file] if verb.as_str() == "prove" => match logic_named(logic.as_str()) {
-            Some(logic) => Ok(Some(Command::Prove(
-                logic,
-                FileName::from_text(alloc, file.as_str())?,
-            ))),
-            None => Ok(None),
-        },
+        [verb, logic, file] if verb.as_str() == "prove" => {
+            let Some(logic) = Logic::from_word(logic.as_bytes()) else {
+                return Ok(None);
+            };
+            let file = FileName::from_text(alloc, file.as_str())?;
+            Ok(Some(Command::Prove(logic, file)))
+        }
         [verb, file] if verb.as_str() == "check" => {
             Ok(Some(Command::Check(FileName::from_text(alloc, file.as_str())?)))
         }

@@ -1,5 +1,6 @@
 -- The words of the logics.
-use Rattle.std.specs.Prelude.{ℕ, List, codes}
+use Rattle.std.specs.Prelude.{ℕ, List, Option, Some, None, if◌then◌else◌, codes}
+use Rattle.std.specs.Str.{bytes_eq}
 use Rattle.lw_formula.specs.declared.logic.Logic.{Logic}
 use Rattle.lw_formula.specs.declared.logic.Logic.TheVariants.{K, KT, S4, S5, GL, Grz}
 
@@ -11,3 +12,13 @@ word_of S4 = codes "s4"
 word_of S5 = codes "s5"
 word_of GL = codes "gl"
 word_of Grz = codes "grz"
+
+-- the logic that the word stands for, if it is the word of one
+abbrev pub logic_of : List ℕ → Option Logic
+logic_of word =
+    if bytes_eq word (word_of K) then Some K else
+    if bytes_eq word (word_of KT) then Some KT else
+    if bytes_eq word (word_of S4) then Some S4 else
+    if bytes_eq word (word_of S5) then Some S5 else
+    if bytes_eq word (word_of GL) then Some GL else
+    if bytes_eq word (word_of Grz) then Some Grz else None

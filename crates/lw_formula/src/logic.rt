@@ -1,5 +1,5 @@
-ghost use Rattle.std.specs.Prelude.{◌≡◌};
-ghost use Rattle.lw_formula.specs.Logic.{word_of};
+ghost use Rattle.std.specs.Prelude.{◌≡◌, ◌≢◌, MatchOption};
+ghost use Rattle.lw_formula.specs.Logic.{word_of, logic_of};
 
 /// A logic, which stands for the class of its finite models.
 #[derive(Clone, Copy, Debug, PartialEq, Eq, Hash)]
@@ -24,6 +24,28 @@ impl Logic {
             Logic::S5 => "s5",
             Logic::GL => "gl",
             Logic::Grz => "grz",
+        }
+    }
+
+    /// The logic that the word stands for, if it is the word of one.
+    pub fn from_word(word: &[u8]) -> Option<Logic>
+        ensures named { result ≡ logic_of word.now }
+        ensures exact { MatchOption result ((logic : Logic) → word.now ≢ word_of logic) (λ logic. word.now ≡ word_of logic) }
+    {
+        if word == b"k".as_slice() {
+            Some(Logic::K)
+        } else if word == b"kt".as_slice() {
+            Some(Logic::KT)
+        } else if word == b"s4".as_slice() {
+            Some(Logic::S4)
+        } else if word == b"s5".as_slice() {
+            Some(Logic::S5)
+        } else if word == b"gl".as_slice() {
+            Some(Logic::GL)
+        } else if word == b"grz".as_slice() {
+            Some(Logic::Grz)
+        } else {
+            None
         }
     }
 }
