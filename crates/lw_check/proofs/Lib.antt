@@ -1,6 +1,5 @@
 pub mod Grown
 pub mod Sets
 pub mod Kept
-pub mod Subproofs
 pub mod Outcomes
 pub mod Verdicts

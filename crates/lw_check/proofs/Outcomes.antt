@@ -18,7 +18,7 @@ use Rattle.lw_check.specs.declared.walked.Walked.{Walked}
 use Rattle.lw_check.specs.declared.walked.Walked.TheVariants.{Through, Broken}
 use Rattle.lw_check.specs.Walk.{among, set_of, AreLive, AreCuts, left_by, outcome_of, Tells, TellsAll}
 use Rattle.lw_check.proofs.Grown.{signed_grows, listed_grows, parts_grow, Grows-trans}
-use Rattle.lw_check.proofs.Subproofs.{each_sub, each_first, count_mapped, forest_mapped, lines_mapped, lines_first, no_member, one_member, two_members}
+use Rattle.lw_proof.proofs.Subproofs.{each_sub, each_first, count_mapped, forest_mapped, lines_mapped, lines_first, no_member, one_member, two_members}
 
 -- a step that keeps its rule leaves the breaks of the subproofs
 kept_step : (cuts : SignedSet) (L : Logic) (ts : List Formula) (X : SignedSet) (Xs : List SignedSet) (t : Tree SignedId) (n : ℕ) →

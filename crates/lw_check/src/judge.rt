@@ -67,24 +67,14 @@ fn walk(
     match left(pool, proof.rule(), proof.principal()) {
         Parts::Nothing => Ok(Walked::Through { next }),
         Parts::One(first, second) => {
-            let part = child(proof, 0);
+            let part = proof.sub(0);
             extended(pool, logic, cuts, items, (first, second), part, next)
         }
         Parts::Two(one, other) => split(pool, logic, cuts, items, (one, other), proof, next),
-        Parts::Nu(part) => {
-            extended(
-                pool,
-                logic,
-                cuts,
-                items,
-                (part, None),
-                child(proof, 0),
-                next,
-            )
-        }
+        Parts::Nu(part) => { extended(pool, logic, cuts, items, (part, None), proof.sub(0), next) }
         Parts::Pi(part) => {
             let mut left = stepped(pool, logic, items, proof.principal(), part)?;
-            walk(pool, logic, cuts, &mut left, child(proof, 0), next)
+            walk(pool, logic, cuts, &mut left, proof.sub(0), next)
         }
     }
 }
@@ -110,9 +100,9 @@ fn split(
     ensures grows { Grows pool.old pool.new }
 {
     let (one, other) = sides;
-    match extended(pool, logic, cuts, items, one, child(proof, 0), step)? {
+    match extended(pool, logic, cuts, items, one, proof.sub(0), step)? {
         Walked::Through { next } => {
-            extended(pool, logic, cuts, items, other, child(proof, 1), next)
+            extended(pool, logic, cuts, items, other, proof.sub(1), next)
         }
         Walked::Broken { step, why } => Ok(Walked::Broken { step, why }),
     }
@@ -141,14 +131,4 @@ fn extended(
     let walked = walk(pool, logic, cuts, items, proof, step)?;
     items.truncate(count);
     Ok(walked)
-}
-
-/// The i-th subproof of the first step, from 0.
-fn child(proof: &Proof, i: usize) -> &Proof
-    requires { i < length (subs_of proof.now) }
-    ensures sub { slice_get (subs_of proof.now) i ≡ Some result.now }
-    ensures smaller { lines result.now < lines proof.now }
-    ensures live { (ts : List Formula) → IsProofLive ts proof.now → IsProofLive ts result.now }
-{
-    proof.sub(i)
 }

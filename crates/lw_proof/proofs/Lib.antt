@@ -6,3 +6,5 @@ pub mod Larger
 pub mod Exact
 pub mod Listing
 pub mod Leanly
+pub mod Mapped
+pub mod Subproofs

@@ -1,4 +1,6 @@
-ghost use Rattle.std.specs.Prelude.{◌≡◌, ◌<◌, length, min, slice_get, IfOk};
+ghost use Rattle.std.specs.Prelude.{◌≡◌, ◌<◌, List, length, min, slice_get, IfOk};
+ghost use Rattle.lw_formula.specs.Formula.{Formula};
+ghost use Rattle.lw_proof.specs.Pooled.{IsProofLive};
 ghost use Rattle.lw_proof.specs.Tree.{node, forest, rule_of, principal_of, subs_of, lines, depth};
 
 use crate::rule::Rule;
@@ -67,7 +69,9 @@ impl Proof {
     /// The i-th subproof of the first step, from 0.
     pub fn sub(&self, i: usize) -> &Proof
         requires { i < length (subs_of self.now) }
-        ensures { slice_get (subs_of self.now) i ≡ Some result.now }
+        ensures sub { slice_get (subs_of self.now) i ≡ Some result.now }
+        ensures smaller { lines result.now < lines self.now }
+        ensures live { (ts : List Formula) → IsProofLive ts self.now → IsProofLive ts result.now }
     {
         &self.subs[i]
     }

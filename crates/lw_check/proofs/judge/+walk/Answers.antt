@@ -14,7 +14,7 @@ use Rattle.lw_check.specs.declared.walked.Walked.TheVariants.{Through}
 use Rattle.lw_check.specs.Walk.{set_of, side_at, Tells, TellsAll}
 use Rattle.lw_check.proofs.Grown.{Grows-refl, Grows-trans, IsProofLive_grows, AreLive_grows, AreBothBelow_grows}
 use Rattle.lw_check.proofs.Sets.{set_of_side}
-use Rattle.lw_check.proofs.Subproofs.{second_member}
+use Rattle.lw_proof.proofs.Subproofs.{second_member}
 use Rattle.lw_check.proofs.Outcomes.{TellsReason, tells_same, tells_refused, tells_kept, tells_none, tells_one, tells_both, tells_broken}
 use Rattle.lw_check.proofs.judge.+walk.Goals as goal
 
@@ -35,7 +35,7 @@ split-extended-requires-in-Through t c =
             (AreLive_grows c.args.pool.now c.extended.new.pool grows c.args.items.now.items c.requires.items),
         (
           AreBothBelow_grows c.args.pool.now c.extended.new.pool grows c.args.sides.1 c.requires.other,
-          c.child-in-Through.ensures.live c.extended.new.pool (IsProofLive_grows c.args.pool.now c.extended.new.pool grows c.args.proof.now c.requires.proof),
+          c.sub-in-Through.ensures.live c.extended.new.pool (IsProofLive_grows c.args.pool.now c.extended.new.pool grows c.args.proof.now c.requires.proof),
         ),
       ),
     )
@@ -45,16 +45,16 @@ split-returns-in-Through-clause-told t c =
     let one : List Formula → SignedSet = λ ts. plus trees (side_at ts c.args.sides.0) (set_of ts c.args.items.now.items) in
     let other : List Formula → SignedSet = λ ts. plus trees (side_at ts c.args.sides.1) (set_of ts c.args.items.now.items) in
     let kept_items : List Formula → SignedSet = λ ts. plus trees (side_at ts c.args.sides.1) (set_of ts c.extended.new.items.items) in
-    let first : Tells c.args.logic c.extended.new.pool c.args.cuts.now one c.child.result.now c.args.step (Through c.in-Through.next) =
-    subst (Tells c.args.logic c.extended.new.pool c.args.cuts.now one c.child.result.now c.args.step) c.in-Through.is c.in_ok-next.ensures.told
+    let first : Tells c.args.logic c.extended.new.pool c.args.cuts.now one c.sub.result.now c.args.step (Through c.in-Through.next) =
+    subst (Tells c.args.logic c.extended.new.pool c.args.cuts.now one c.sub.result.now c.args.step) c.in-Through.is c.in_ok-next.ensures.told
     in
     IfOk-weaker c.extended-in-Through.result
-    (Tells c.args.logic c.extended-in-Through.new.pool c.args.cuts.now kept_items c.child-in-Through.result.now c.in-Through.next)
+    (Tells c.args.logic c.extended-in-Through.new.pool c.args.cuts.now kept_items c.sub-in-Through.result.now c.in-Through.next)
     (TellsAll c.args.logic c.extended-in-Through.new.pool c.args.cuts.now (λ ts. one ts ∷ other ts ∷ []) c.args.proof.now c.args.step)
     (λ outcome told.
-    tells_both c.args.logic c.args.cuts.now one other c.args.proof.now c.child.result.now c.child-in-Through.result.now c.requires.count c.child.ensures.sub
-    c.extended.new.pool c.extended-in-Through.new.pool c.args.step c.in-Through.next outcome c.extended-in-Through.ensures.grows c.child-in-Through.ensures.sub first
-    (tells_same c.args.logic c.extended-in-Through.new.pool c.args.cuts.now kept_items other c.child-in-Through.result.now c.in-Through.next outcome
+    tells_both c.args.logic c.args.cuts.now one other c.args.proof.now c.sub.result.now c.sub-in-Through.result.now c.requires.count c.sub.ensures.sub
+    c.extended.new.pool c.extended-in-Through.new.pool c.args.step c.in-Through.next outcome c.extended-in-Through.ensures.grows c.sub-in-Through.ensures.sub first
+    (tells_same c.args.logic c.extended-in-Through.new.pool c.args.cuts.now kept_items other c.sub-in-Through.result.now c.in-Through.next outcome
     (λ ts g. ap (λ (xs : List SignedId). plus trees (side_at ts c.args.sides.1) (set_of ts xs)) c.in_ok-next.ensures.same) told))
     c.extended-in-Through.ensures.told
 
@@ -63,16 +63,16 @@ split-returns-in-Broken-clause-told t c =
     let one : List Formula → SignedSet = λ ts. plus trees (side_at ts c.args.sides.0) (set_of ts c.args.items.now.items) in
     let other : List Formula → SignedSet = λ ts. plus trees (side_at ts c.args.sides.1) (set_of ts c.args.items.now.items) in
     let second = second_member (subs_of c.args.proof.now) c.requires.count in
-    tells_broken c.args.logic c.args.cuts.now one other c.args.proof.now c.child.result.now second.0 c.requires.count c.child.ensures.sub
+    tells_broken c.args.logic c.args.cuts.now one other c.args.proof.now c.sub.result.now second.0 c.requires.count c.sub.ensures.sub
     c.extended.new.pool c.args.step c.in-Broken.step c.in-Broken.why second.1
-    (subst (Tells c.args.logic c.extended.new.pool c.args.cuts.now one c.child.result.now c.args.step) c.in-Broken.is c.in_ok-next.ensures.told)
+    (subst (Tells c.args.logic c.extended.new.pool c.args.cuts.now one c.sub.result.now c.args.step) c.in-Broken.is c.in_ok-next.ensures.told)
 
 pub walk-walk-requires : goal.walk-walk-requires
 walk-walk-requires t c = (
   search rules,
   (
     c.in_ok-left-in-Pi.ensures.live,
-    c.child-in-Pi.ensures.live c.stepped.new.pool (IsProofLive_grows c.args.pool.now c.stepped.new.pool c.stepped.ensures.grows c.args.proof.now c.requires.proof),
+    c.sub-in-Pi.ensures.live c.stepped.new.pool (IsProofLive_grows c.args.pool.now c.stepped.new.pool c.stepped.ensures.grows c.args.proof.now c.requires.proof),
   ),
 )
 
@@ -101,14 +101,14 @@ walk-returns-in-One-clause-told t c =
     let count : length (subs_of c.args.proof.now) ≡ 1 = c.in_default.ensures.arity ∙ ap arity (sym c.rule.ensures) ∙ sym c.in-One.ensures.count in
     let larger : List Formula → SignedSet = λ ts. plus trees (side_at ts (c.in-One.first, c.in-One.second)) (set_of ts c.args.items.now.items) in
     IfOk-weaker c.extended.result
-    (Tells c.args.logic c.extended.new.pool c.args.cuts.now larger c.child-part.result.now c.saturating_add-next.result)
+    (Tells c.args.logic c.extended.new.pool c.args.cuts.now larger c.sub-part.result.now c.saturating_add-next.result)
     (Tells c.args.logic c.extended.new.pool c.args.cuts.now (λ ts. set_of ts c.args.items.now.items) c.args.proof.now c.args.step)
     (λ outcome told.
     tells_kept c.args.logic c.args.pool.now c.args.cuts.now c.args.items.now.items c.args.proof.now c.requires.items c.requires.proof
     c.rule.result c.principal.result c.rule.ensures c.principal.ensures c.extended.new.pool (One c.in-One.first c.in-One.second) c.args.step c.saturating_add-next.result outcome
     c.extended.ensures.grows reason c.in-One.ensures.live c.in-One.ensures.sets
     (λ n e. omega (arith, e, c.saturating_add-next.ensures))
-    (tells_one c.args.logic c.extended.new.pool c.args.cuts.now larger c.args.proof.now c.child-part.result.now c.saturating_add-next.result outcome count c.child-part.ensures.sub told))
+    (tells_one c.args.logic c.extended.new.pool c.args.cuts.now larger c.args.proof.now c.sub-part.result.now c.saturating_add-next.result outcome count c.sub-part.ensures.sub told))
     c.extended.ensures.told
 
 pub walk-returns-in-Two-clause-told : goal.walk-returns-in-Two-clause-told
@@ -137,14 +137,14 @@ walk-returns-in-Nu-clause-told t c =
     let count : length (subs_of c.args.proof.now) ≡ 1 = c.in_default.ensures.arity ∙ ap arity (sym c.rule.ensures) ∙ sym c.in-Nu.ensures.count in
     let larger : List Formula → SignedSet = λ ts. plus trees (side_at ts (c.in-Nu.part, None)) (set_of ts c.args.items.now.items) in
     IfOk-weaker c.extended-in-Nu.result
-    (Tells c.args.logic c.extended-in-Nu.new.pool c.args.cuts.now larger c.child.result.now c.saturating_add-next.result)
+    (Tells c.args.logic c.extended-in-Nu.new.pool c.args.cuts.now larger c.sub.result.now c.saturating_add-next.result)
     (Tells c.args.logic c.extended-in-Nu.new.pool c.args.cuts.now (λ ts. set_of ts c.args.items.now.items) c.args.proof.now c.args.step)
     (λ outcome told.
     tells_kept c.args.logic c.args.pool.now c.args.cuts.now c.args.items.now.items c.args.proof.now c.requires.items c.requires.proof
     c.rule.result c.principal.result c.rule.ensures c.principal.ensures c.extended-in-Nu.new.pool (Nu c.in-Nu.part) c.args.step c.saturating_add-next.result outcome
     c.extended-in-Nu.ensures.grows reason c.in-Nu.ensures.live c.in-Nu.ensures.sets
     (λ n e. omega (arith, e, c.saturating_add-next.ensures))
-    (tells_one c.args.logic c.extended-in-Nu.new.pool c.args.cuts.now larger c.args.proof.now c.child.result.now c.saturating_add-next.result outcome count c.child.ensures.sub told))
+    (tells_one c.args.logic c.extended-in-Nu.new.pool c.args.cuts.now larger c.args.proof.now c.sub.result.now c.saturating_add-next.result outcome count c.sub.ensures.sub told))
     c.extended-in-Nu.ensures.told
 
 pub walk-returns-in_ok-left-in-Pi-clause-told : goal.walk-returns-in_ok-left-in-Pi-clause-told
@@ -155,15 +155,15 @@ walk-returns-in_ok-left-in-Pi-clause-told t c =
     let count : length (subs_of c.args.proof.now) ≡ 1 = c.in_default.ensures.arity ∙ ap arity (sym c.rule.ensures) ∙ sym c.in-Pi.ensures.count in
     let seen : List Formula → SignedSet = λ ts. plus trees (added trees c.args.logic (signed_at ts (principal_of c.args.proof.now)) (signed_at ts c.in-Pi.part)) (kept trees c.args.logic (set_of ts c.args.items.now.items)) in
     IfOk-weaker c.walk.result
-    (Tells c.args.logic c.walk.new.pool c.args.cuts.now (λ ts. set_of ts c.in_ok-left-in-Pi.left.items) c.child-in-Pi.result.now c.saturating_add-next.result)
+    (Tells c.args.logic c.walk.new.pool c.args.cuts.now (λ ts. set_of ts c.in_ok-left-in-Pi.left.items) c.sub-in-Pi.result.now c.saturating_add-next.result)
     (Tells c.args.logic c.walk.new.pool c.args.cuts.now (λ ts. set_of ts c.args.items.now.items) c.args.proof.now c.args.step)
     (λ outcome told.
     tells_kept c.args.logic c.args.pool.now c.args.cuts.now c.args.items.now.items c.args.proof.now c.requires.items c.requires.proof
     c.rule.result c.principal.result c.rule.ensures c.principal.ensures c.walk.new.pool (Pi c.in-Pi.part) c.args.step c.saturating_add-next.result outcome
     (Grows-trans c.args.pool.now c.stepped.new.pool c.walk.new.pool c.stepped.ensures.grows c.walk.ensures.grows) reason c.in-Pi.ensures.live c.in-Pi.ensures.sets
     (λ n e. omega (arith, e, c.saturating_add-next.ensures))
-    (tells_one c.args.logic c.walk.new.pool c.args.cuts.now seen c.args.proof.now c.child-in-Pi.result.now c.saturating_add-next.result outcome count c.child-in-Pi.ensures.sub
-    (tells_same c.args.logic c.walk.new.pool c.args.cuts.now (λ ts. set_of ts c.in_ok-left-in-Pi.left.items) seen c.child-in-Pi.result.now c.saturating_add-next.result outcome
+    (tells_one c.args.logic c.walk.new.pool c.args.cuts.now seen c.args.proof.now c.sub-in-Pi.result.now c.saturating_add-next.result outcome count c.sub-in-Pi.ensures.sub
+    (tells_same c.args.logic c.walk.new.pool c.args.cuts.now (λ ts. set_of ts c.in_ok-left-in-Pi.left.items) seen c.sub-in-Pi.result.now c.saturating_add-next.result outcome
     (λ ts g.
     c.in_ok-left-in-Pi.ensures.set ts (Grows-trans c.stepped.new.pool c.walk.new.pool ts c.walk.ensures.grows g)
     ∙ ap (λ (x : SignedId). plus trees (added trees c.args.logic (signed_at ts x) (signed_at ts c.in-Pi.part)) (kept trees c.args.logic (set_of ts c.args.items.now.items))) c.principal-in-Pi.ensures)
