@@ -1,3 +1,4 @@
 pub mod Edits
 pub mod Bounds
+pub mod Cover
 pub mod Table
