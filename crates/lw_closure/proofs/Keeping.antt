@@ -9,10 +9,10 @@ use Rattle.lw_formula.specs.declared.logic.Logic.TheVariants.{K, KT, S4, S5, GL,
 use Rattle.lw_formula.specs.declared.parts.Parts.TheVariants.{Nothing}
 use Rattle.lw_formula.specs.declared.sign.Sign.TheVariants.{T, F}
 use Rattle.lw_formula.specs.FiniteModel.{AreDistinct}
-use Rattle.lw_formula.specs.Formula.{Formula, letter, falsum, verum, neg, conj, disj, impl, equi, nec, poss, subformulas, IsSubformula}
+use Rattle.lw_formula.specs.Formula.{Formula, nec, poss, IsSubformula}
 use Rattle.lw_formula.specs.Signed.{Signed}
 use Rattle.lw_formula.specs.Components.{parts_of, guard_of}
-use Rattle.lw_formula.proofs.Subformulas.{is_member-Decides, subformulas-IsSubformula, IsSubformula-refl, IsSubformula-trans}
+use Rattle.lw_formula.proofs.Subformulas.{IsSubformula-refl, IsSubformula-trans}
 use Rattle.lw_pool.specs.declared.id.FormId.{FormId}
 use Rattle.lw_pool.specs.Region.{tree_at, IsLive, AreIdsExact, AreOperandsBelow, AreSubformulas, Grows}
 use Rattle.lw_pool.proofs.Below.{operand_within}
@@ -23,7 +23,8 @@ use Rattle.lw_closure.specs.Building.{IsNumbering, own_guard, IsOfOwnGuard, HasG
 use Rattle.lw_closure.specs.Table.{Table, IsTable, item_count, entry_at, form_of, form_at, signed_of}
 use Rattle.lw_closure.specs.Keeps.{Keeps, guard_in, IsOfGuard, IsOfClosure}
 use Rattle.lw_closure.proofs.Growing.{stands_on, stood}
-use Rattle.lw_closure.proofs.Lifting.{is_pi-map, is_subformula-true}
+use Rattle.lw_closure.proofs.Items.{guarded, is_subformula-true, is_subformula-means}
+use Rattle.lw_closure.proofs.Mapped.{is_pi-map}
 use Rattle.lw_closure.proofs.Putting.{Stands, member_stands}
 
 -- ids that ascend are distinct
@@ -72,42 +73,15 @@ pi_of_guard _ g e = cc
 
 -- the guard of a π is that of its formula
 guard_of-own : (s : Signed) → guard_of s ≡ cond (is_pi (parts_of s)) (own_guard s.1) None
-guard_of-own (T, letter p) = refl
-guard_of-own (T, falsum) = refl
-guard_of-own (T, verum) = refl
-guard_of-own (T, neg a) = refl
-guard_of-own (T, conj a b) = refl
-guard_of-own (T, disj a b) = refl
-guard_of-own (T, impl a b) = refl
-guard_of-own (T, equi a b) = refl
-guard_of-own (T, nec a) = refl
 guard_of-own (T, poss a) = refl
-guard_of-own (F, letter p) = refl
-guard_of-own (F, falsum) = refl
-guard_of-own (F, verum) = refl
-guard_of-own (F, neg a) = refl
-guard_of-own (F, conj a b) = refl
-guard_of-own (F, disj a b) = refl
-guard_of-own (F, impl a b) = refl
-guard_of-own (F, equi a b) = refl
 guard_of-own (F, nec a) = refl
-guard_of-own (F, poss a) = refl
+guard_of-own _ = refl
 
 own_of-guard : (s g : Signed) → guard_of s ≡ Some g → own_guard s.1 ≡ Some g
 own_of-guard s g e = go (is_pi (parts_of s)) (sym (guard_of-own s) ∙ e) where
   go : (b : Bool) → cond b (own_guard s.1) None ≡ Some g → own_guard s.1 ≡ Some g
   go true h = h
   go false h = cc
-
--- a guard of the search is one of a subformula of the goal
-guarded : (goal : Formula) (s g : Signed) → guard_in Grz goal s ≡ Some g → (is_subformula goal s.1 ≡ true) × (guard_of s ≡ Some g)
-guarded goal s g e = go (is_subformula goal s.1) refl e where
-  go : (b : Bool) → is_subformula goal s.1 ≡ b → cond b (guard_of s) None ≡ Some g → (is_subformula goal s.1 ≡ true) × (guard_of s ≡ Some g)
-  go true t h = (t, h)
-  go false t h = cc
-
-is_subformula-means : (goal c : Formula) → is_subformula goal c ≡ true → IsSubformula c goal
-is_subformula-means goal c e = (subformulas-IsSubformula goal c).0 ((is_member-Decides (subformulas goal) c).0 e)
 
 no_guard : (n : ℕ) (found : List (Option ℕ)) → length found ≡ 0 → get_or found n None ≡ None
 no_guard n found e = get_or_past found n None (omega arith)
@@ -206,8 +180,8 @@ module _ (old ts : List Formula) (logic : Logic) (goal : FormId) (own forms : Li
 
       guard_found : (logic' : Logic) → logic' ≡ logic → (c : Formula) → IsOfGuard logic' g c → (j : ℕ) × (j < length found) × IsOfOwnGuard (form_at ts own j) c
       guard_found Grz q c h =
-          let p = guarded g h.0 h.1 h.2 in
-          let r = (own_stands h.0.1).1 (is_subformula-means g h.0.1 p.0) in (
+          let p = guarded Grz g h.0 h.1 h.2 in
+          let r = (own_stands h.0.1).1 p.0 in (
             r.0,
             omega (arith, r.1, subst (λ x. FitsLogic x (length own) found) (sym q) fits),
             (h.1, ap own_guard r.2 ∙ own_of-guard h.0 h.1 p.1, h.3),

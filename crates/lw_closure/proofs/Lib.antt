@@ -2,8 +2,11 @@ pub mod Numbers
 pub mod Inserting
 pub mod Lifting
 pub mod Mapped
+pub mod Items
+pub mod Origins
 pub mod Growing
 pub mod Putting
 pub mod Guarding
 pub mod Operands
 pub mod Keeping
+pub mod OwnPis

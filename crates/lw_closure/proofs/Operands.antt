@@ -5,7 +5,7 @@ use Rattle.std.proofs.lemmas.List.{get_or_default}
 use Rattle.lw_formula.specs.declared.parts.Parts.{Parts}
 use Rattle.lw_formula.specs.declared.parts.Parts.TheVariants.{Nothing, One, Two, Nu, Pi}
 use Rattle.lw_formula.specs.declared.sign.Sign.TheVariants.{T, F}
-use Rattle.lw_formula.specs.Formula.{Formula, letter, falsum, verum, neg, conj, disj, impl, equi, nec, poss, IsOperand}
+use Rattle.lw_formula.specs.Formula.{Formula, neg, conj, disj, impl, equi, nec, poss, IsOperand}
 use Rattle.lw_formula.specs.Signed.{Signed}
 use Rattle.lw_formula.specs.Components.{parts_of}
 use Rattle.lw_pool.specs.declared.id.FormId.{FormId}
@@ -35,12 +35,7 @@ parts_operands (T, nec a) = refl
 parts_operands (F, nec a) = refl
 parts_operands (T, poss a) = refl
 parts_operands (F, poss a) = refl
-parts_operands (T, letter p) = tt
-parts_operands (F, letter p) = tt
-parts_operands (T, falsum) = tt
-parts_operands (F, falsum) = tt
-parts_operands (T, verum) = tt
-parts_operands (F, verum) = tt
+parts_operands _ = tt
 
 module _ (ts : List Formula) (Q : Signed → Type 0) where
   -- what holds of the components and what holds of their ids

@@ -1,5 +1,5 @@
 -- What it means that a pool has a closure's formulas, and that its table tells of them.
-use Rattle.std.specs.Prelude.{◌≡◌, ℕ, ◌<◌, ◌⊎◌, ◌↔◌, if◌then◌else◌, Option, Some, None, All, List, length}
+use Rattle.std.specs.Prelude.{◌≡◌, ℕ, ◌<◌, ◌⊎◌, ◌↔◌, Bool, true, false, if◌then◌else◌, Option, Some, None, All, List, length}
 use Rattle.std.specs.Option.{option_map}
 use Rattle.lw_formula.specs.declared.logic.Logic.{Logic}
 use Rattle.lw_formula.specs.declared.logic.Logic.TheVariants.{Grz}
@@ -11,6 +11,11 @@ use Rattle.lw_pool.specs.Region.{tree_at, IsLive}
 use Rattle.lw_proof.specs.Derivation.{is_subformula}
 use Rattle.lw_closure.specs.Mapping.{map_parts}
 use Rattle.lw_closure.specs.Table.{Table, IsTable, item_count, form_at, signed_of, entry_at}
+
+-- the logic in which a step wants a guard
+abbrev pub has_guards : Logic → Bool
+has_guards Grz = true
+has_guards _ = false
 
 -- the guard that a search in the logic adds for s: in Grz, that of a π of one of the goal's subformulas
 abbrev pub guard_in : Logic → Formula → Signed → Option Signed

@@ -5,7 +5,8 @@ ghost use Rattle.lw_closure.specs.Building.{AddsGuard, FitsLogic, HasGuards, IsN
 ghost use Rattle.lw_closure.specs.Table.{most_forms};
 
 use crate::fault::SUBFORMULA_LIMIT;
-use crate::numbering::{add, form_at, item_number};
+use crate::item::item_number;
+use crate::numbering::{add, form_at};
 use indexmap::IndexSet;
 use lw_formula::{Logic, Sign};
 use lw_pool::{FormId, Node, Pool};

@@ -1,8 +1,9 @@
-ghost use Rattle.std.specs.Prelude.{◌≡◌, ◌*◌, ◌/◌, ◌<◌, ◌≤◌, Contains, IfNone, IfOk, IfSome, length};
+ghost use Rattle.std.specs.Prelude.{◌≡◌, ◌*◌, ◌<◌, ◌≤◌, Contains, IfNone, IfOk, IfSome, length};
 ghost use Rattle.lw_formula.specs.FiniteModel.{AreDistinct};
 ghost use Rattle.lw_closure.specs.Building.{IsAdded};
-ghost use Rattle.lw_closure.specs.Table.{form_of, item_of, most_forms, sign_of};
+ghost use Rattle.lw_closure.specs.Table.{form_of, item_of, most_forms};
 
+use crate::item::item_number;
 use indexmap::IndexSet;
 use lw_formula::Sign;
 use lw_pool::{FormId, SignedId};
@@ -26,18 +27,6 @@ pub(crate) fn add(forms: &mut IndexSet<FormId>, form: FormId) -> Result<usize, A
 {
     let (at, _) = forms.insert_full(form)?;
     Ok(at)
-}
-
-/// The number of a formula's item under the sign.
-pub(crate) fn item_number(form: usize, sign: Sign) -> usize
-    requires { form < most_forms }
-    ensures sign { sign_of result ≡ sign }
-    ensures form { result / 2 ≡ form }
-{
-    match sign {
-        Sign::T => 2 * form,
-        Sign::F => 2 * form + 1,
-    }
 }
 
 /// The signed formula that has this number.

@@ -2,7 +2,7 @@ ghost use Rattle.std.specs.Prelude.{◌≡◌, ◌*◌, ◌<◌, ◌≤◌, Cont
 ghost use Rattle.lw_closure.specs.Table.{entry_at, form_of, item_at, item_count, most_forms, IsTable};
 
 use crate::entry::Entry;
-use crate::numbering::{form_at, number};
+use crate::numbering::{form_at, item_at, number};
 use indexmap::IndexSet;
 use lw_formula::{Logic, Parts};
 use lw_pool::{FormId, SignedId};
@@ -86,6 +86,14 @@ impl Closure {
         ensures absent { IfNone result (¬ Contains self.now.forms item.form) }
     {
         number(&self.forms, item)
+    }
+
+    /// The signed formula that the item is.
+    pub fn signed(&self, item: usize) -> SignedId
+        requires { item < item_count self.now }
+        ensures { result ≡ item_at self.now item }
+    {
+        item_at(&self.forms, item)
     }
 
     /// The item's components.

@@ -66,6 +66,16 @@ module _ (L : Logic) (f : Fragment) (label : ℕ → SignedSet) (o : IsOpen tree
   beside r w l (T, a) e = (o.unclosed w l).served (T, nec a) e r
   beside r w l (F, a) e = (o.unclosed w l).served (F, poss a) e r
 
+  -- where a step keeps the ν themselves, a ν goes along each path
+  on_path : ((w v : ℕ) → IsEdge L f w v → (s : Signed) → (is_nu (parts_of s) && label w s) ≡ true → label v s ≡ true) →
+      (w v : ℕ) → (w ≡ v) ⊎ Reaches (IsEdge L f) w v → (c : Signed) → label w (nu_of c) ≡ true → label v (nu_of c) ≡ true
+  on_path stays w v (inl same) c e = subst (λ u. label u (nu_of c) ≡ true) same e
+  on_path stays w v (inr path) c e =
+      reaches_within (IsEdge L f) (λ w v. label w (nu_of c) ≡ true → label v (nu_of c) ≡ true)
+      (λ w v edge h. stays w v edge (nu_of c) (and_from (is_nu (parts_of (nu_of c))) (label w (nu_of c)) (is_nu-nu_of c) h))
+      (λ w u v p q h. q (p h))
+      w v path e
+
 -- what a ν says reaches each world that is seen
 carried : (L : Logic) (f : Fragment) (label : ℕ → SignedSet) → IsOpen trees L f label → (w v : ℕ) → w < length f.worlds → v < length f.worlds → IsRelated L f w v →
     (c : Signed) → label w (nu_of c) ≡ true → label v c ≡ true
@@ -74,22 +84,8 @@ carried KT f label o w v l k r c e = elim r [
   | inl same ↦ subst (λ u. label u c ≡ true) same (beside KT f label o refl w l c e)
   | inr edge ↦ o.flows w v edge c e
 ]
-carried S4 f label o w v l k r c e = beside S4 f label o refl v k c (elim r [
-  | inl same ↦ subst (λ u. label u (nu_of c) ≡ true) same e
-  | inr path ↦
-      reaches_within (IsEdge S4 f) (λ w v. label w (nu_of c) ≡ true → label v (nu_of c) ≡ true)
-      (λ w v edge h. o.flows w v edge (nu_of c) (and_from (is_nu (parts_of (nu_of c))) (label w (nu_of c)) (is_nu-nu_of c) h))
-      (λ w u v p q h. q (p h))
-      w v path e
-])
-carried Grz f label o w v l k r c e = beside Grz f label o refl v k c (elim r [
-  | inl same ↦ subst (λ u. label u (nu_of c) ≡ true) same e
-  | inr path ↦
-      reaches_within (IsEdge Grz f) (λ w v. label w (nu_of c) ≡ true → label v (nu_of c) ≡ true)
-      (λ w v edge h. o.flows w v edge (nu_of c) (and_from (is_nu (parts_of (nu_of c))) (label w (nu_of c)) (is_nu-nu_of c) h))
-      (λ w u v p q h. q (p h))
-      w v path e
-])
+carried S4 f label o w v l k r c e = beside S4 f label o refl v k c (on_path S4 f label o o.flows w v r c e)
+carried Grz f label o w v l k r c e = beside Grz f label o refl v k c (on_path Grz f label o o.flows w v r c e)
 carried GL f label o w v l k r c e =
     (reaches_within (IsEdge GL f) (λ w v. label w (nu_of c) ≡ true → (label v (nu_of c) ≡ true) × (label v c ≡ true))
     (λ w v edge h. (

@@ -1,5 +1,5 @@
 -- Models that grow by pairs and by facts.
-use Rattle.std.proofs.Common.{◌≡◌, ℕ, ◌+◌, ◌<◌, ◌≤◌, true, List, [], ◌∷◌, ◌++◌, length, get_or, take, ◌⊎◌, ◌↔◌, inl, inr, refl, ap, sym, subst, ◌∙◌, arith}
+use Rattle.std.proofs.Common.{◌≡◌, ℕ, ◌+◌, ◌<◌, ◌≤◌, true, List, [], ◌∷◌, length, get_or, take, ◌⊎◌, ◌↔◌, inl, inr, refl, ap, sym, subst, ◌∙◌, arith}
 use Rattle.std.specs.List.{Contains}
 use Rattle.std.proofs.lemmas.List.{take_more, take_all}
 use Rattle.std.proofs.lemmas.List.Elements.{Contains-append_left, Contains-push, Contains-push_cases}
@@ -109,14 +109,11 @@ module _ (ts : List Formula) (t : Table) where
   pub facts_none : (m : FiniteModel) (world : ℕ) (label : List ℕ) → AddsFacts m m (FactsOf world label 0)
   facts_none m world label = record { worlds = refl; pairs = refl; facts = adds_same (HasFact m) (FactsOf world label 0) (λ w p x. absurd (Contains-nil x.1.0 x.1.1)) }
 
-  taken : (label : List ℕ) (i : ℕ) → i < length label → take (i + 1) label ≡ take i label ++ get_or label i 0 ∷ []
-  taken label i l = take_more label i 0 l
-
   more_items : (label : List ℕ) (i : ℕ) → i < length label → (p : List ℕ) → SaysTrue ts t (take i label) p → SaysTrue ts t (take (i + 1) label) p
-  more_items label i l p x = (x.0, subst (λ xs. Contains xs x.0) (sym (taken label i l)) (Contains-append_left (take i label) (get_or label i 0 ∷ []) x.0 x.1), x.2)
+  more_items label i l p x = (x.0, subst (λ xs. Contains xs x.0) (sym (take_more label i 0 l)) (Contains-append_left (take i label) (get_or label i 0 ∷ []) x.0 x.1), x.2)
 
   last_item : (label : List ℕ) (i : ℕ) → i < length label → (p : List ℕ) → SaysTrue ts t (take (i + 1) label) p → SaysTrue ts t (take i label) p ⊎ (signed_of ts t (get_or label i 0) ≡ (T, letter p))
-  last_item label i l p x = elim (Contains-push_cases (take i label) (get_or label i 0) x.0 (subst (λ xs. Contains xs x.0) (taken label i l) x.1)) [
+  last_item label i l p x = elim (Contains-push_cases (take i label) (get_or label i 0) x.0 (subst (λ xs. Contains xs x.0) (take_more label i 0 l) x.1)) [
     | inl old ↦ inl (x.0, old, x.2)
     | inr same ↦ inr (ap (signed_of ts t) same ∙ x.2)
   ]
@@ -133,7 +130,7 @@ module _ (ts : List Formula) (t : Table) where
       ];
       only = λ w p x. elim ((HasFact-with_fact k world name w p).0 (subst (λ y. HasFact y w p) q x)) [
         | inl old ↦ elim (a.facts.only w p old) [ inl first ↦ inl first | inr new ↦ inr (new.0, more_items label i l p new.1) ]
-        | inr new ↦ inr (sym new.0, (get_or label i 0, subst (λ xs. Contains xs (get_or label i 0)) (sym (taken label i l)) (Contains-push (take i label) (get_or label i 0)), says ∙ ap (λ y. (T, letter y)) new.1))
+        | inr new ↦ inr (sym new.0, (get_or label i 0, subst (λ xs. Contains xs (get_or label i 0)) (sym (take_more label i 0 l)) (Contains-push (take i label) (get_or label i 0)), says ∙ ap (λ y. (T, letter y)) new.1))
       ];
     };
   }

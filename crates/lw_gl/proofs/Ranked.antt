@@ -1,5 +1,5 @@
 -- The ranking by the ν that a label lacks is what a search owes, in GL.
-use Rattle.std.proofs.Common.{◌≡◌, ℕ, ◌-◌, ◌<◌, ◌≤◌, true, false, not, ◌&&◌, ◌||◌, nat_eq, nat_le, List, [], ◌∷◌, length, refl, sym, ap, subst, ◌∙◌, arith}
+use Rattle.std.proofs.Common.{◌≡◌, ℕ, ◌-◌, ◌<◌, ◌≤◌, true, false, not, ◌&&◌, nat_eq, nat_le, List, [], ◌∷◌, length, refl, sym, ap, subst, ◌∙◌, arith}
 use Rattle.std.proofs.lemmas.Bool.{or_left, or_right, and_parts, and_from, false_from_ne_true, leb-true, le-leb, eq-eqb}
 use Rattle.lw_formula.specs.declared.logic.Logic.TheVariants.{GL}
 use Rattle.lw_formula.specs.declared.parts.Parts.TheVariants.{Pi}
@@ -8,17 +8,18 @@ use Rattle.lw_formula.specs.Formula.{Formula, nec, poss}
 use Rattle.lw_formula.specs.Signed.{Signed, flip}
 use Rattle.lw_formula.specs.Components.{parts_of}
 use Rattle.lw_proof.specs.System.{Set}
-use Rattle.lw_proof.specs.Derivation.{added, is_nu, is_pi, kept, plus}
+use Rattle.lw_proof.specs.Derivation.{added, is_nu, kept, plus}
 use Rattle.lw_closure.specs.Mapping.{map_parts}
-use Rattle.lw_closure.specs.Table.{Table, entry_at, flip_item, form_at, item_count, signed_of}
+use Rattle.lw_closure.specs.Table.{Table, entry_at, flip_item, item_count, signed_of}
 use Rattle.lw_closure.specs.Items.{items}
-use Rattle.lw_closure.proofs.Lifting.{is_nu-map}
-use Rattle.lw_closure.proofs.Numbers.{sign_flip, half_flip, flip_below}
+use Rattle.lw_closure.specs.Keeps.{has_guards}
+use Rattle.lw_closure.proofs.Items.{item_nu, own_item, signed_flip}
+use Rattle.lw_closure.proofs.Numbers.{flip_below}
 use Rattle.lw_sat.specs.Moves.{Survives}
 use Rattle.lw_sat.specs.Sets.{among, adding}
 use Rattle.lw_search.specs.Ranked.{IsFor, IsRanked}
-use Rattle.lw_search.specs.Step.{has_guards, is_some, seed}
-use Rattle.lw_search.proofs.Counting.{few_nus, own_item}
+use Rattle.lw_search.specs.Step.{seed}
+use Rattle.lw_search.proofs.Counting.{few_nus, pi_asks}
 use Rattle.lw_search.specs.Lacking.{goal_modals, lacks_nu, nus_lacked}
 use Rattle.lw_search.proofs.Ranks.{nus_lacked-less, nus_lacked-within}
 use Rattle.lw_gl.specs.Lacking.{by_lacking}
@@ -45,10 +46,8 @@ module _ (ts : List Formula) (t : Table) (made : IsFor GL ts t) where
     other_nu : is_nu (entry_at t (flip_item item)).parts ≡ true
     other_nu =
         let other_below : flip_item item < item_count t = flip_below item (length t.forms) below in
-        let signed : signed_of ts t (flip_item item) ≡ flip (signed_of ts t item) = λ j. (sign_flip item j, form_at ts t.forms (half_flip item j)) in
         let of_pi : parts_of (signed_of ts t item) ≡ Pi (signed_of ts t c) = sym (made.keeps.parts item below) ∙ ap (map_parts (signed_of ts t)) pi in
-        sym (is_nu-map (signed_of ts t) (entry_at t (flip_item item)).parts) ∙ ap is_nu (made.keeps.parts (flip_item item) other_below)
-        ∙ ap (λ x. is_nu (parts_of x)) signed ∙ flip_nu (signed_of ts t item) (signed_of ts t c) of_pi
+        sym (item_nu ts t made.keeps (flip_item item) other_below) ∙ ap (λ x. is_nu (parts_of x)) (signed_flip ts t item) ∙ flip_nu (signed_of ts t item) (signed_of ts t c) of_pi
 
     in_seed : (j : ℕ) → plus (items t) (added (items t) GL item c) (kept (items t) GL X) j ≡ true → seed t X item c j ≡ true
     in_seed j e = subst (λ L. plus (items t) (added (items t) L item c) (kept (items t) L X) j ≡ true) (sym made.logic) e
@@ -79,7 +78,7 @@ ranked = record {
       let out = false_from_ne_true (X (flip_item item)) (asks.unclosed.consistent item asks.there) in
       let less : nus_lacked t (seed t X item c) < nus_lacked t X = fewer ts t made X item c below asks.parts out in (
         omega arith,
-        subst (λ L. (is_pi (entry_at t item).parts && (not (has_guards L) || is_some (entry_at t item).guard)) ≡ true) (sym made.logic) (ap (λ p. is_pi p && true) asks.parts),
+        pi_asks t item c (ap has_guards made.logic) asks.parts,
         le-leb (nus_lacked t (seed t X item c)) (n - 1) (omega arith),
       );
 }

@@ -1,10 +1,8 @@
-ghost use Rattle.std.specs.Prelude.{◌≡◌, ◌+◌, ◌^◌, ◌<◌};
 ghost use Rattle.lw_formula.specs.declared.logic.Logic.TheVariants.{GL};
-ghost use Rattle.lw_closure.specs.Table.{flip_item};
 ghost use Rattle.lw_search.specs.Lacking.{goal_modals};
 ghost use Rattle.lw_gl.specs.Lacking.{by_lacking};
 
-use lw_closure::Closure;
+use lw_closure::{Closure, flip};
 use lw_search::StepRule;
 
 /// The steps of GL: to the component of a π and to the π under the other sign, with the label's ν and their components.
@@ -36,12 +34,4 @@ impl StepRule for DiagonalSteps {
     fn beside(&self, _closure: &Closure, item: usize) -> Option<usize> {
         Some(flip(item))
     }
-}
-
-/// The item of the same formula under the other sign.
-fn flip(item: usize) -> usize
-    requires { item + 1 < 2 ^ 64 }
-    ensures { result ≡ flip_item item }
-{
-    if item % 2 == 0 { item + 1 } else { item - 1 }
 }

@@ -1,6 +1,6 @@
 -- Each π of a label has a guard, and an unclosed label lacks that of each π that asks for a step.
-use Rattle.std.proofs.Common.{◌≡◌, ℕ, ◌<◌, Bool, true, false, cond, not, ◌&&◌, ◌||◌, List, length, Option, Some, None, inl, inr, refl, sym, ap, subst, ◌∙◌}
-use Rattle.std.specs.Option.{option_map}
+use Rattle.std.proofs.Common.{◌≡◌, ℕ, ◌<◌, Bool, true, false, not, ◌&&◌, ◌||◌, List, length, Option, Some, None, inl, inr, refl, sym, ap, subst, ◌∙◌}
+use Rattle.std.specs.Option.{is_some, option_map}
 use Rattle.std.proofs.lemmas.Bool.{cases_Bool, or_right, and_parts, and_from, both_ways, false≢true, not-true, not_from_false, false_from_ne_true}
 use Rattle.lw_formula.specs.declared.logic.Logic.TheVariants.{Grz}
 use Rattle.lw_formula.specs.declared.parts.Parts.{Parts}
@@ -12,18 +12,16 @@ use Rattle.lw_pool.specs.Region.{tree_at}
 use Rattle.lw_proof.specs.System.{Set}
 use Rattle.lw_proof.specs.Derivation.{has_refl, is_nu, is_pi}
 use Rattle.lw_closure.specs.Mapping.{OfParts, map_parts}
-use Rattle.lw_closure.specs.Table.{Table, entry_at, flip_item, form_at, item_count, signed_of}
+use Rattle.lw_closure.specs.Table.{Table, entry_at, flip_item, item_count, signed_of}
 use Rattle.lw_closure.specs.Items.{any_below}
-use Rattle.lw_closure.specs.Keeps.{Keeps, guard_in}
+use Rattle.lw_closure.specs.Keeps.{Keeps, has_guards}
 use Rattle.lw_closure.specs.Unclosed.{IsUnclosedLabel}
-use Rattle.lw_closure.proofs.Lifting.{guard_in-cases, is_nu-map, is_pi-map, is_subformula-true}
-use Rattle.lw_closure.proofs.Numbers.{any_below_cases, flip_below, half_flip, sign_flip}
-use Rattle.lw_counter.proofs.Lifts.{any_below-found}
+use Rattle.lw_closure.proofs.Items.{signed_flip, same_item, item_guard, own_guard, item_nu, item_pi}
+use Rattle.lw_closure.proofs.Numbers.{any_below_cases, any_below-found, flip_below}
+use Rattle.lw_closure.proofs.OwnPis.{IsOwnPi, guard_nu, own_components}
 use Rattle.lw_sat.specs.Moves.{IsSide}
 use Rattle.lw_sat.specs.Sets.{among, IsOfItems}
-use Rattle.lw_search.specs.Step.{has_guards, is_asker, is_some}
-use Rattle.lw_search.proofs.Counting.{same_item}
-use Rattle.lw_search.proofs.OwnPis.{IsOwnPi, guard_nu, own_components}
+use Rattle.lw_search.specs.Step.{is_asker}
 use Rattle.lw_search.proofs.Sides.{of_side}
 use Rattle.lw_grz.specs.Guards.{is_guarded}
 use Rattle.lw_grz.proofs.Serving.{pi_guard, AreIn, served_in, guard_serves}
@@ -70,15 +68,11 @@ module _ (ts : List Formula) (t : Table) (keeps : Keeps ts t) (logic : t.logic �
   abbrev goal : Formula
   goal = tree_at ts t.goal
 
-  item_pi : (i : ℕ) → i < n → is_pi (parts i) ≡ true → is_pi (parts_of (s i)) ≡ true
-  item_pi i l e = ap is_pi (sym (keeps.parts i l)) ∙ is_pi-map s (parts i) ∙ e
-
   -- a π of the goal's subformulas has a guard
   pub own_asks : (i : ℕ) → i < n → is_pi (parts i) ≡ true → IsSubformula (s i).1 goal → is_asker t i ≡ true
   own_asks i l pi own =
-      let g = pi_guard (s i) (item_pi i l pi) in
-      let guard : option_map s (entry_at t i).guard ≡ Some g.0 =
-      keeps.guard i l ∙ ap (λ L. guard_in L goal (s i)) logic ∙ ap (λ b. cond b (guard_of (s i)) None) (is_subformula-true goal (s i).1 own) ∙ g.1 in
+      let g = pi_guard (s i) (item_pi ts t keeps i l ∙ pi) in
+      let guard : option_map s (entry_at t i).guard ≡ Some g.0 = own_guard ts t keeps i logic l own ∙ g.1 in
       and_from (is_pi (parts i)) (not (has_guards t.logic) || is_some (entry_at t i).guard) pi
       (or_right (not (has_guards t.logic)) (is_some (entry_at t i).guard) (is_some-map s (entry_at t i).guard g.0 guard))
 
@@ -86,19 +80,19 @@ module _ (ts : List Formula) (t : Table) (keeps : Keeps ts t) (logic : t.logic �
   pub guard_item : (i g : ℕ) → i < n → (entry_at t i).guard ≡ Some g → (g < n) × (is_nu (parts g) ≡ true) × (guard_of (s i) ≡ Some (s g))
   guard_item i g l e =
       let below : g < n = keeps.table.guard i l g e in
-      let guard : guard_of (s i) ≡ Some (s g) = guard_in-cases t.logic goal (s i) (s g) (sym (keeps.guard i l) ∙ ap (option_map s) e) in
-      (below, sym (is_nu-map s (parts g)) ∙ ap is_nu (keeps.parts g below) ∙ guard_nu (s i) (s g) guard, guard)
+      let guard : guard_of (s i) ≡ Some (s g) = (item_guard ts t keeps i g l e).1 in
+      (below, sym (item_nu ts t keeps g below) ∙ guard_nu (s i) (s g) guard, guard)
 
   -- so has a π that is a component of an item
   pub side_asks : (i : ℕ) (cs : List ℕ) → i < n → IsSide t.logic (parts i) cs → (j : ℕ) → among cs j ≡ true → is_pi (parts j) ≡ true → is_asker t j ≡ true
   side_asks i cs l side j m pi =
       let below : j < n = of_side (λ k. k < n) t.logic (parts i) cs (keeps.table.parts i l) side j m in
-      own_asks j below pi (of_side (λ k. IsOwnPi goal (s k)) t.logic (parts i) cs (own_components ts t keeps i l) side j m (item_pi j below pi))
+      own_asks j below pi (of_side (λ k. IsOwnPi goal (s k)) t.logic (parts i) cs (own_components ts t keeps i l) side j m (item_pi ts t keeps j below ∙ pi))
 
   pub component_asks : (i c : ℕ) → i < n → parts i ≡ Pi c → is_pi (parts c) ≡ true → is_asker t c ≡ true
   component_asks i c l e pi =
       let below : c < n = subst (OfParts (λ k. k < n)) e (keeps.table.parts i l) in
-      own_asks c below pi (subst (OfParts (λ k. IsOwnPi goal (s k))) e (own_components ts t keeps i l) (item_pi c below pi))
+      own_asks c below pi (subst (OfParts (λ k. IsOwnPi goal (s k))) e (own_components ts t keeps i l) (item_pi ts t keeps c below ∙ pi))
 
   module _ (X : Set ℕ) (of_items : IsOfItems t X) (unclosed : IsUnclosedLabel t X) where
     -- the signed formula is that of an item of the label
@@ -112,9 +106,8 @@ module _ (ts : List Formula) (t : Table) (keeps : Keeps ts t) (logic : t.logic �
 
     clash : (x : Signed) → In x → In (flip x) → ⊥
     clash x (i, there, e) (j, other, f) =
-        let flipped : s (flip_item i) ≡ flip (s i) = λ k. (sign_flip i k, form_at ts t.forms (half_flip i k)) in
         let same : j ≡ flip_item i =
-        same_item ts t keeps j (flip_item i) (of_items j other) (flip_below i (length t.forms) (of_items i there)) (f ∙ ap flip (sym e) ∙ sym flipped) in
+        same_item ts t keeps j (flip_item i) (of_items j other) (flip_below i (length t.forms) (of_items i there)) (f ∙ ap flip (sym e) ∙ sym (signed_flip ts t i)) in
         unclosed.consistent i there (subst (λ k. X k ≡ true) same other)
 
     -- the guard of a π whose component isn't in the label isn't in it either

@@ -1,6 +1,6 @@
 -- The ranking by the guards that a label lacks is what a search owes, in Grz.
 use Rattle.std.proofs.Common.{◌≡◌, ℕ, ◌-◌, ◌<◌, ◌≤◌, true, false, not, ◌&&◌, ◌||◌, nat_eq, nat_le, List, [], ◌∷◌, Option, Some, None, inl, inr, refl, sym, ap, subst, ◌∙◌, arith, eqb-true, eq-eqb}
-use Rattle.std.specs.Option.{option_to_list}
+use Rattle.std.specs.Option.{is_some, option_to_list}
 use Rattle.std.proofs.lemmas.Bool.{or_cases, or_left, or_right, and_parts, and_from, and_right, both_ways, false≢true, not-true, not_from_true, not_from_false, false_from_ne_true, leb-true, le-leb}
 use Rattle.lw_formula.specs.declared.logic.Logic.TheVariants.{Grz}
 use Rattle.lw_formula.specs.declared.parts.Parts.TheVariants.{Pi}
@@ -12,13 +12,14 @@ use Rattle.lw_proof.specs.System.{Set}
 use Rattle.lw_proof.specs.Derivation.{added, has_refl, is_nu, is_pi, kept, plus}
 use Rattle.lw_closure.specs.Table.{Table, entry_at, item_count, signed_of}
 use Rattle.lw_closure.specs.Items.{items}
+use Rattle.lw_closure.specs.Keeps.{has_guards}
+use Rattle.lw_closure.proofs.OwnPis.{nu_no_pi}
 use Rattle.lw_sat.specs.Moves.{IsSide}
 use Rattle.lw_sat.specs.Sets.{among, adding}
 use Rattle.lw_search.specs.Lacking.{goal_modals}
 use Rattle.lw_search.specs.Ranked.{IsFor, IsGoal, IsRanked}
-use Rattle.lw_search.specs.Step.{askers, has_guards, is_asker, is_some, seed}
+use Rattle.lw_search.specs.Step.{askers, is_asker, seed}
 use Rattle.lw_search.proofs.Counting.{few_askers}
-use Rattle.lw_search.proofs.OwnPis.{nu_no_pi}
 use Rattle.lw_search.proofs.Ranks.{count_below-within, count_below-less}
 use Rattle.lw_grz.specs.Guards.{by_guards, guards_lacked, is_guarded, is_in, lacks_guard}
 use Rattle.lw_grz.proofs.Guarded.{found_guard, guarded_to, guarded_from, own_asks, guard_item, side_asks, component_asks, guard_out}

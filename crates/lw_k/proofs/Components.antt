@@ -8,9 +8,10 @@ use Rattle.lw_formula.specs.Formula.{letter, falsum, verum, neg, conj, disj, imp
 use Rattle.lw_formula.specs.Signed.{Signed}
 use Rattle.lw_formula.specs.Components.{parts_of}
 use Rattle.lw_closure.specs.Mapping.{OfParts, map_parts}
+use Rattle.lw_closure.proofs.Mapped.{OfParts-map}
 use Rattle.lw_sat.specs.Moves.{IsSide}
 use Rattle.lw_sat.specs.Sets.{among}
-use Rattle.lw_search.proofs.Sides.{OfParts-map, of_side}
+use Rattle.lw_search.proofs.Sides.{of_side}
 
 parts_depth : (x : Signed) → OfParts (λ y. depth y.1 ≤ depth x.1) (parts_of x)
 parts_depth (T, letter p) = tt

@@ -1,36 +1,23 @@
 -- The ranking by modal depth is what a search owes, in K and in KT.
-use Rattle.std.proofs.Common.{◌≡◌, ℕ, zero, suc, ◌+◌, ◌-◌, ◌<◌, ◌≤◌, Bool, true, false, not, ◌&&◌, ◌||◌, nat_eq, nat_lt, List, [], ◌∷◌, inl, inr, refl, sym, ap, subst, ◌∙◌, arith, eqb-true}
-use Rattle.std.proofs.lemmas.Bool.{cases_Bool, cases_lt, or_cases, or_left, or_right, and_parts, and_from, both_ways, false≢true, not-true, not_from_false, ltb-true, lt-ltb}
-use Rattle.lw_formula.specs.declared.parts.Parts.{Parts}
-use Rattle.lw_formula.specs.declared.parts.Parts.TheVariants.{Nothing, One, Two, Nu, Pi}
+use Rattle.std.proofs.Common.{◌≡◌, ℕ, ◌+◌, ◌-◌, ◌<◌, ◌≤◌, Bool, true, false, ◌&&◌, nat_eq, nat_lt, List, [], ◌∷◌, inl, inr, refl, sym, ap, subst, ◌∙◌, arith, eqb-true}
+use Rattle.std.proofs.lemmas.Bool.{cases_Bool, cases_lt, or_cases, and_parts, and_from, both_ways, false≢true, not-true, not_from_false, ltb-true, lt-ltb}
+use Rattle.lw_formula.specs.declared.parts.Parts.TheVariants.{Nu, Pi}
 use Rattle.lw_formula.specs.Formula.{Formula, depth, modal_count}
 use Rattle.lw_pool.specs.Region.{tree_at}
 use Rattle.lw_model.specs.Bounds.{step_bound}
 use Rattle.lw_proof.specs.System.{Set}
-use Rattle.lw_proof.specs.Derivation.{added, has_cut, is_pi, kept, plus}
+use Rattle.lw_proof.specs.Derivation.{added, has_cut, kept, plus}
 use Rattle.lw_closure.specs.Table.{Table, entry_at, item_count, signed_of}
 use Rattle.lw_closure.specs.Items.{any_below, is_nu_to, items}
-use Rattle.lw_closure.proofs.Numbers.{any_below_cases}
+use Rattle.lw_closure.specs.Keeps.{has_guards}
+use Rattle.lw_closure.proofs.Numbers.{any_below_cases, any_below-found, is_nu_to-true}
 use Rattle.lw_sat.specs.Moves.{Survives}
 use Rattle.lw_sat.specs.Sets.{among, adding}
 use Rattle.lw_search.specs.Ranked.{IsFor, IsGoal, IsRanked}
-use Rattle.lw_search.specs.Step.{has_guards, is_some, seed}
+use Rattle.lw_search.specs.Step.{seed}
+use Rattle.lw_search.proofs.Counting.{pi_asks}
 use Rattle.lw_k.specs.Depth.{by_depth, goal_depth, is_shallow, item_depth, logic_of}
 use Rattle.lw_k.proofs.Components.{side_depth, inside_nu, inside_pi}
-
-any_below-at : (test : ℕ → Bool) (n i : ℕ) → i < n → test i ≡ true → any_below test n ≡ true
-any_below-at test zero i l e = absurd (omega arith)
-any_below-at test (suc n) i l e = elim (cases_lt i n) [
-  | inl lower ↦ or_right (test n) (any_below test n) (any_below-at test n i lower e)
-  | inr last ↦ (let same : i ≡ n = omega arith in or_left (test n) (any_below test n) (subst (λ k. test k ≡ true) same e))
-]
-
-is_nu_to-true : (i : ℕ) (p : Parts ℕ) → is_nu_to i p ≡ true → p ≡ Nu i
-is_nu_to-true i (Nu c) e = ap Nu (eqb-true c i e)
-is_nu_to-true i Nothing e = absurd (false≢true e)
-is_nu_to-true i (One a b) e = absurd (false≢true e)
-is_nu_to-true i (Two p q) e = absurd (false≢true e)
-is_nu_to-true i (Pi c) e = absurd (false≢true e)
 
 -- the components of the ν alone are kept
 kept_under : (reflexive : Bool) (t : Table) (X : Set ℕ) (j : ℕ) → kept (items t) (logic_of reflexive) X j ≡ true → (items t).under X j ≡ true
@@ -42,9 +29,9 @@ added_alone : (reflexive : Bool) (t : Table) (item c j : ℕ) → among (added (
 added_alone true t item c j e = elim (or_cases (nat_eq c j) false e) [ inl here ↦ eqb-true c j here | inr none ↦ absurd (false≢true none) ]
 added_alone false t item c j e = elim (or_cases (nat_eq c j) false e) [ inl here ↦ eqb-true c j here | inr none ↦ absurd (false≢true none) ]
 
-asker : (reflexive : Bool) (p : Parts ℕ) (b : Bool) (c : ℕ) → p ≡ Pi c → (is_pi p && (not (has_guards (logic_of reflexive)) || b)) ≡ true
-asker true p b c e = ap (λ q. is_pi q && true) e
-asker false p b c e = ap (λ q. is_pi q && true) e
+unguarded : (reflexive : Bool) → has_guards (logic_of reflexive) ≡ false
+unguarded true = refl
+unguarded false = refl
 
 few_steps : (reflexive : Bool) (m d : ℕ) → d ≤ step_bound (logic_of reflexive) m d
 few_steps true m d = omega arith
@@ -62,7 +49,7 @@ module _ (ts : List Formula) (t : Table) where
   shallow_to n X e i l there =
       elim (cases_lt n (item_depth ts t i)) [
         | inl more ↦ absurd (both_ways (any_below (deeper n X) (item_count t)) (not-true (any_below (deeper n X) (item_count t)) e)
-            (any_below-at (deeper n X) (item_count t) i l (and_from (X i) (nat_lt n (item_depth ts t i)) there (lt-ltb n (item_depth ts t i) more))))
+            (any_below-found (deeper n X) (item_count t) i l (and_from (X i) (nat_lt n (item_depth ts t i)) there (lt-ltb n (item_depth ts t i) more))))
         | inr less ↦ less
       ]
 
@@ -147,8 +134,7 @@ ranked reflexive = record {
       let more = pi_depth reflexive ts t made X item c below asks.there asks.parts in
       let bound : item_depth ts t item ≤ n = shallow item below asks.there in (
         omega arith,
-        subst (λ L. (is_pi (entry_at t item).parts && (not (has_guards L) || is_some (entry_at t item).guard)) ≡ true) (sym made.logic)
-            (asker reflexive (entry_at t item).parts (is_some (entry_at t item).guard) c asks.parts),
+        pi_asks t item c (ap has_guards made.logic ∙ unguarded reflexive) asks.parts,
         shallow_from ts t (n - 1) (seed t X item c) (λ j l h. seed_depth reflexive ts t made X item c below asks.there asks.parts n shallow j h),
       );
 }

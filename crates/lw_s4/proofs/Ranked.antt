@@ -1,19 +1,21 @@
 -- The ranking by lacking ν and by the history is what a search owes, in S4.
-use Rattle.std.proofs.Common.{◌≡◌, ℕ, suc, ◌+◌, ◌-◌, ◌*◌, ◌^◌, ◌<◌, ◌≤◌, true, false, not, ◌&&◌, ◌||◌, nat_eq, List, [], ◌∷◌, inl, inr, refl, sym, ap, subst, ◌∙◌, arith, eq-eqb}
+use Rattle.std.proofs.Common.{◌≡◌, ℕ, suc, ◌+◌, ◌-◌, ◌*◌, ◌^◌, ◌<◌, ◌≤◌, true, false, not, ◌&&◌, ◌||◌, nat_eq, List, [], ◌∷◌, inl, inr, refl, ap, ◌∙◌, arith, eq-eqb}
 use Rattle.std.proofs.lemmas.Bool.{cases_Bool, or_left, or_right, and_parts, and_from, and_right, both_ways, not-true, not_from_true, not_from_false, false_from_ne_true, leb-true, le-leb}
 use Rattle.std.proofs.lemmas.Nat.{mul-le}
 use Rattle.std.proofs.Math.Nat.{one-mul, suc-mul, pow-zero, pow-suc}
 use Rattle.lw_formula.specs.declared.logic.Logic.TheVariants.{S4}
 use Rattle.lw_formula.specs.Formula.{Formula}
 use Rattle.lw_proof.specs.System.{Set}
-use Rattle.lw_proof.specs.Derivation.{has_refl, is_nu, is_pi}
+use Rattle.lw_proof.specs.Derivation.{has_refl, is_nu}
 use Rattle.lw_closure.specs.Table.{Table, entry_at, item_count, IsTable}
+use Rattle.lw_closure.specs.Keeps.{has_guards}
+use Rattle.lw_closure.proofs.Items.{own_item}
 use Rattle.lw_closure.proofs.Numbers.{any_below_cases}
 use Rattle.lw_sat.specs.Sets.{among, adding}
 use Rattle.lw_search.specs.Lacking.{goal_modals, lacks_nu, nus_lacked}
 use Rattle.lw_search.specs.Ranked.{Past, AsksFor, IsFor, IsRanked}
-use Rattle.lw_search.specs.Step.{askers, has_guards, is_asker, is_some, seed}
-use Rattle.lw_search.proofs.Counting.{few_askers, few_nus, own_item}
+use Rattle.lw_search.specs.Step.{askers, is_asker, seed}
+use Rattle.lw_search.proofs.Counting.{few_askers, few_nus, pi_asks}
 use Rattle.lw_search.proofs.Ranks.{count_below-within, count_below-less, nus_lacked-within, nus_lacked-less}
 use Rattle.lw_s4.specs.History.{has_more_nus, history}
 use Rattle.lw_s4.specs.Rank.{by_history, fresh, is_fresh, rank, square_of_modals}
@@ -156,7 +158,7 @@ ranked = record {
       le-leb (rank t path (adding cs X)) n (omega arith);
   falls = λ ts t path n X item c w made e asks.
       let asker : is_asker t item ≡ true =
-      subst (λ L. (is_pi (entry_at t item).parts && (not (has_guards L) || is_some (entry_at t item).guard)) ≡ true) (sym made.logic) (ap (λ p. is_pi p && true) asks.parts) in
+      pi_asks t item c (ap has_guards made.logic) asks.parts in
       let few : rank t path X ≤ n = leb-true (rank t path X) n e in
       let less : rank t ((record { world = w; label = X; item = item }) ∷ path) (seed t X item c) < rank t path X =
       step_rank t made.keeps.table made.logic path X item c w (asks.items item asks.there) asker (outside t path X item c made.keeps.table made.logic asks) in

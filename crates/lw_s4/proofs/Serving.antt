@@ -12,8 +12,8 @@ use Rattle.lw_proof.proofs.Larger.{IsWithin}
 use Rattle.lw_closure.specs.declared.entry.Entry.{Entry}
 use Rattle.lw_closure.specs.Table.{Table, entry_at, item_count, IsTable}
 use Rattle.lw_closure.specs.Items.{items}
+use Rattle.lw_closure.proofs.Numbers.{any_below-found}
 use Rattle.lw_counter.specs.Paths.{has_links}
-use Rattle.lw_counter.proofs.Lifts.{any_below-found}
 use Rattle.lw_sat.specs.Sets.{among}
 use Rattle.lw_search.specs.Ranked.{Past, LeadsTo, IsServedBy}
 use Rattle.lw_search.specs.Step.{seed}

@@ -1,5 +1,5 @@
 -- The root and its children make an open fragment.
-use Rattle.std.proofs.Common.{◌≡◌, ◌≢◌, ℕ, ◌+◌, ◌*◌, ◌/◌, ◌%◌, ◌<◌, ◌≤◌, Bool, true, cond, eqb, ◌||◌, not, Some, None, List, [], length, inl, inr, refl, sym, ap, subst, ◌∙◌, add-one, arith}
+use Rattle.std.proofs.Common.{◌≡◌, ◌≢◌, ℕ, ◌+◌, ◌*◌, ◌/◌, ◌%◌, ◌<◌, ◌≤◌, true, cond, eqb, Some, None, List, [], length, inl, inr, refl, sym, ap, subst, ◌∙◌, arith}
 use Rattle.std.specs.List.{All}
 use Rattle.std.proofs.lemmas.Bool.{and_from, cases_eq, cases_lt, cond_both, eq-eqb, false≢true, ne_eqb}
 use Rattle.std.proofs.lemmas.List.{get_or_past, length_push}
@@ -9,24 +9,23 @@ use Rattle.lw_formula.specs.declared.logic.Logic.TheVariants.{S5}
 use Rattle.lw_formula.specs.declared.parts.Parts.{Parts}
 use Rattle.lw_formula.specs.declared.parts.Parts.TheVariants.{Pi}
 use Rattle.lw_proof.specs.System.{Set}
-use Rattle.lw_proof.specs.Derivation.{has_cut, is_modal_part, is_pi, kept}
+use Rattle.lw_proof.specs.Derivation.{has_cut, is_modal_part, kept}
 use Rattle.lw_proof.proofs.Larger.{IsWithin}
 use Rattle.lw_closure.specs.Items.{items}
 use Rattle.lw_closure.specs.Table.{Table, entry_at, flip_item, item_count}
 use Rattle.lw_closure.specs.Unclosed.{IsUnclosedLabel}
+use Rattle.lw_closure.specs.Keeps.{has_guards}
+use Rattle.lw_closure.proofs.Numbers.{flip_even, flip_odd}
 use Rattle.lw_counter.specs.Fragment.{Fragment, World, world_at, items_of, with_world}
 use Rattle.lw_counter.specs.Open.{IsOpen}
 use Rattle.lw_counter.specs.Paths.{has_links}
 use Rattle.lw_counter.proofs.Forms.{items_more, new_world, old_world}
 use Rattle.lw_sat.specs.Sets.{among, IsOfItems}
-use Rattle.lw_sat.proofs.Finding.{flip_even}
+use Rattle.lw_search.proofs.Counting.{pi_asks}
+use Rattle.lw_search.proofs.Summing.{count_more}
 use Rattle.lw_search.specs.Explored.{IsExplored}
-use Rattle.lw_search.specs.Step.{count_below, has_guards, is_asker, is_some}
-use Rattle.lw_s5.proofs.Labels.{flip_odd}
+use Rattle.lw_search.specs.Step.{count_below, is_asker}
 use Rattle.lw_s5.specs.Rooted.{IsChild, IsInWorld, IsModalAlike, Surrounds}
-
-count_more : (test : ℕ → Bool) (n : ℕ) → count_below test (n + 1) ≡ cond (test n) 1 0 + count_below test n
-count_more test n = ap (count_below test) (add-one n)
 
 -- the fragment without worlds
 abbrev pub empty : Fragment
@@ -109,11 +108,8 @@ module _ (t : Table) (R : Set ℕ) where
               )
         ];
       } where
-        asks : is_asker t n ≡ true
-        asks = and_from (is_pi (entry_at t n).parts) _ (subst (λ r. is_pi r ≡ true) (sym parts) refl) (ap (λ L. not (has_guards L) || is_some (entry_at t n).guard) logic)
-
         counted : count_below (is_asker t) (n + 1) ≡ 1 + count_below (is_asker t) n
-        counted = count_more (is_asker t) n ∙ ap (λ b. cond b 1 0 + count_below (is_asker t) n) asks
+        counted = count_more (is_asker t) n ∙ ap (λ b. cond b 1 0 + count_below (is_asker t) n) (pi_asks t n c (ap has_guards logic) parts)
 
 -- the same formula under the other sign is modal too
 modal_flip : (t : Table) (i : ℕ) → IsModalAlike t → flip_item i < item_count t → is_modal_part (entry_at t i).parts ≡ true → is_modal_part (entry_at t (flip_item i)).parts ≡ true

@@ -1,19 +1,17 @@
 -- Labels that wait, and which modal formulas they decide.
-use Rattle.std.proofs.Common.{◌≡◌, ℕ, ◌+◌, ◌*◌, ◌/◌, ◌%◌, ◌<◌, ◌⊎◌, Bool, true, ◌||◌, List, length, ◌-◌, cond, eqb, inl, inr, refl, sym, ap, subst, ◌∙◌, arith}
+use Rattle.std.proofs.Common.{◌≡◌, ℕ, ◌+◌, ◌*◌, ◌/◌, ◌%◌, ◌<◌, ◌⊎◌, Bool, true, List, length, inl, inr, refl, sym, ap, subst, ◌∙◌, arith}
 use Rattle.std.specs.Bool.{IsTrue}
 use Rattle.std.proofs.lemmas.Bool.{cases_eq, or_cases, or_left, or_right}
-use Rattle.lw_formula.specs.declared.parts.Parts.{Parts}
 use Rattle.lw_formula.specs.declared.sign.Sign.{Sign}
 use Rattle.lw_formula.specs.declared.sign.Sign.TheVariants.{T, F}
 use Rattle.lw_formula.specs.Components.{parts_of}
 use Rattle.lw_formula.specs.Formula.{Formula, letter, falsum, verum, neg, conj, disj, impl, equi, nec, poss}
 use Rattle.lw_proof.specs.System.{Set}
 use Rattle.lw_proof.specs.Derivation.{is_modal_part}
-use Rattle.lw_closure.specs.Table.{Table, entry_at, flip_item, form_at, item_count, sign_of, signed_of}
-use Rattle.lw_closure.specs.Mapping.{map_parts}
+use Rattle.lw_closure.specs.Table.{Table, entry_at, flip_item, form_at, item_count, sign_of}
 use Rattle.lw_closure.specs.Keeps.{Keeps}
-use Rattle.lw_closure.proofs.Lifting.{is_nu-map, is_pi-map}
-use Rattle.lw_closure.proofs.Numbers.{sign_even, sign_odd}
+use Rattle.lw_closure.proofs.Items.{item_modal}
+use Rattle.lw_closure.proofs.Numbers.{sign_even, sign_odd, flip_even, flip_odd}
 use Rattle.lw_sat.specs.declared.saturation.Found.{Found}
 use Rattle.lw_sat.specs.declared.saturation.Found.TheVariants.{Unclosed}
 use Rattle.lw_sat.specs.declared.saturation.Saturation.{Saturation}
@@ -22,7 +20,6 @@ use Rattle.lw_sat.specs.Moves.{Survives}
 use Rattle.lw_sat.specs.Saturated.{every}
 use Rattle.lw_sat.specs.Sets.{IsOfItems}
 use Rattle.lw_sat.proofs.Coursing.{at_waiting, every_survives}
-use Rattle.lw_sat.proofs.Finding.{flip_even}
 use Rattle.lw_sat.proofs.Rounding.{at_items}
 use Rattle.lw_s5.specs.Rooted.{HasLabel, decides, IsDecidedBy, IsModalAlike}
 
@@ -50,13 +47,10 @@ modal_alike (equi a b) = refl
 modal_alike (nec a) = refl
 modal_alike (poss a) = refl
 
-is_modal-map : {I J : Type 0} (f : I → J) (p : Parts I) → is_modal_part (map_parts f p) ≡ is_modal_part p
-is_modal-map f p = λ i. is_nu-map f p i || is_pi-map f p i
-
 module _ (ts : List Formula) (t : Table) (keeps : Keeps ts t) where
   is_modal : (i : ℕ) (s : Sign) (f : ℕ) → i < item_count t → sign_of i ≡ s → i / 2 ≡ f → is_modal_part (entry_at t i).parts ≡ is_modal_part (parts_of (s, form_at ts t.forms f))
   is_modal i s f l sign half =
-      sym (is_modal-map (signed_of ts t) (entry_at t i).parts) ∙ ap is_modal_part (keeps.parts i l)
+      sym (item_modal ts t keeps i l)
       ∙ ap (λ x. is_modal_part (parts_of (x, form_at ts t.forms (i / 2)))) sign ∙ ap (λ g. is_modal_part (parts_of (s, form_at ts t.forms g))) half
 
   pub kept_alike : IsModalAlike t
@@ -64,9 +58,6 @@ module _ (ts : List Formula) (t : Table) (keeps : Keeps ts t) where
       is_modal (2 * f) T f (omega (arith, l)) (sign_even (2 * f) (omega arith)) (omega arith)
       ∙ modal_alike (form_at ts t.forms f)
       ∙ sym (is_modal (2 * f + 1) F f (omega (arith, l)) (sign_odd (2 * f + 1) (omega arith)) (omega arith))
-
-pub flip_odd : (i : ℕ) → i % 2 ≡ 1 → flip_item i ≡ i - 1
-flip_odd i e = ap (λ k. cond (eqb k 0) (i + 1) (i - 1)) e
 
 -- where no modal formula was found that X decides and R doesn't, R decides the modal items of X
 pub decided_by : (t : Table) (R X : Set ℕ) → IsModalAlike t → IsOfItems t X →

@@ -2,8 +2,7 @@
 ghost use Rattle.std.specs.Prelude.{◌≡◌, ◌<◌, IsTrue, All, IfErr, IfNone, IfOk, IfSome, length};
 ghost use Rattle.lw_formula.specs.declared.logic.Logic.TheVariants.{S5};
 ghost use Rattle.lw_formula.specs.declared.parts.Parts.TheVariants.{Pi};
-ghost use Rattle.lw_proof.specs.Tree.{more, node, none};
-ghost use Rattle.lw_closure.specs.Table.{entry_at, item_at, item_count};
+ghost use Rattle.lw_closure.specs.Table.{entry_at, item_count};
 ghost use Rattle.lw_sat.specs.Course.{label};
 ghost use Rattle.lw_sat.specs.Sets.{among};
 ghost use Rattle.lw_search.specs.Step as step;
@@ -13,8 +12,7 @@ use crate::label::{decides, is_modal, items};
 use crate::obstacle::Obstacle;
 use lw_closure::Closure;
 use lw_formula::Logic;
-use lw_proof::{Proof, Rule};
-use lw_sat::{Found, Saturation, signed};
+use lw_sat::{Found, Saturation, step_over};
 use std::alloc::{AllocError, Global};
 
 /// The label of a child of the root that serves the root's π `item` by its component.
@@ -40,7 +38,7 @@ pub(crate) fn child(
     let seed = seed(alloc, closure, root, item, component)?;
     let mut saturation = Saturation::start(alloc, closure, Logic::S5, &seed)?;
     match saturation.next(closure)? {
-        Found::Closed(proof) => Err(Obstacle::Closed(step(alloc, closure, item, proof)?)),
+        Found::Closed(proof) => Err(Obstacle::Closed(step_over(alloc, closure, item, proof)?)),
         Found::Unclosed => match undecided(closure, root, &saturation) {
             Some(formula) => Err(Obstacle::Undecided(formula)),
             None => Ok(items(alloc, closure, &saturation)?),
@@ -70,16 +68,6 @@ fn seed(
     }
     seed.push(component)?;
     Ok(seed)
-}
-
-// The proof that begins with the Step on the item and goes on with this one.
-fn step(alloc: Global, closure: &Closure, item: usize, proof: Proof) -> Result<Proof, AllocError>
-    requires { item < item_count closure.now }
-    ensures { IfOk result (λ whole. whole ≡ node Rule.Step (item_at closure.now item) (more proof none)) }
-{
-    let mut subs = Vec::new(alloc);
-    subs.push(proof)?;
-    Ok(Proof::new(Rule::Step, signed(closure, item), subs))
 }
 
 // A modal formula of which the child has an item and the root has neither, if there is one.

@@ -11,7 +11,7 @@ use Rattle.lw_proof.specs.Tree.{Tree}
 use Rattle.lw_proof.specs.Derivation.{has_cut, is_modal_part}
 use Rattle.lw_proof.specs.Lean.{HasNew}
 use Rattle.lw_closure.specs.Table.{Table, item_count, entry_at}
-use Rattle.lw_closure.proofs.Numbers.{sign_even}
+use Rattle.lw_closure.proofs.Numbers.{sign_even, flip_even}
 use Rattle.lw_sat.specs.declared.board.Board.{Board}
 use Rattle.lw_sat.specs.declared.frame.Frame.{Frame}
 use Rattle.lw_sat.specs.declared.saturation.State.{State}
@@ -22,7 +22,6 @@ use Rattle.lw_sat.specs.Moves.{Moves, Survives}
 use Rattle.lw_sat.specs.Path.{Spot, root, room_below, spot_of, most_steps, Becomes, IsBoard, IsWide}
 use Rattle.lw_sat.specs.Saturated.{every, fold_steps, room, FoldsAll, IsAt, IsClosing}
 use Rattle.lw_sat.specs.Sets.{adding, among, top}
-use Rattle.lw_sat.proofs.Finding.{flip_even}
 use Rattle.lw_sat.proofs.Lacking.{weight_some}
 use Rattle.lw_sat.proofs.Unwinding.{seed_closed}
 use Rattle.lw_sat.proofs.Using.{closes_rests}

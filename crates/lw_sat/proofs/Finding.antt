@@ -1,6 +1,6 @@
 -- What an item in a label asks for.
-use Rattle.std.proofs.Common.{◌≡◌, ℕ, ◌+◌, ◌-◌, ◌%◌, ◌<◌, ◌≤◌, ◌||◌, true, false, cond, eqb, Option, Some, None, List, [], ◌∷◌, refl, sym, ap, subst, ◌∙◌, inl, inr, ⊎_elim, arith}
-use Rattle.std.proofs.lemmas.Bool.{cases_Bool, cases_eq, both_ways, eqb-true, eqb-false, eq-eqb}
+use Rattle.std.proofs.Common.{◌≡◌, ℕ, ◌+◌, ◌-◌, ◌%◌, ◌<◌, ◌≤◌, ◌||◌, true, false, Option, Some, None, List, [], ◌∷◌, refl, sym, ap, subst, ◌∙◌, inl, inr, ⊎_elim, arith}
+use Rattle.std.proofs.lemmas.Bool.{cases_eq, both_ways, eq-eqb}
 use Rattle.lw_formula.specs.declared.parts.Parts.{Parts}
 use Rattle.lw_formula.specs.declared.parts.Parts.TheVariants.{One, Two, Nu}
 use Rattle.lw_proof.specs.declared.rule.Rule.{Rule}
@@ -11,32 +11,19 @@ use Rattle.lw_closure.specs.Items.{items}
 use Rattle.lw_closure.specs.Mapping.{OfBoth, OfParts}
 use Rattle.lw_closure.specs.Table.{Table, IsTable, item_count, entry_at, flip_item}
 use Rattle.lw_closure.specs.Unclosed.{IsUnclosedLabel}
-use Rattle.lw_closure.proofs.Numbers.{sign_even}
+use Rattle.lw_closure.proofs.Numbers.{sign_even, flip_even, flip_odd, by_parity}
 use Rattle.lw_sat.specs.Moves.{listed, IsSide}
 use Rattle.lw_sat.specs.Sets.{adding, AreBelow, IsOfItems}
 use Rattle.lw_sat.specs.Working.{IsLeaf, IsQuiet, IsWork}
 use Rattle.lw_sat.specs.declared.work.Work.TheVariants.{Only, Both}
 
-pub flip_even : (i : ℕ) → i % 2 ≡ 0 → flip_item i ≡ i + 1
-flip_even i e = ap (λ b. cond b (i + 1) (i - 1)) (eq-eqb (i % 2) 0 e)
-
-flip_odd : (i : ℕ) → i % 2 ≡ 1 → flip_item i ≡ i - 1
-flip_odd i e = ap (λ k. cond (eqb k 0) (i + 1) (i - 1)) e
-
 -- an item and its opposite are the two items of a formula
 both_signs : (X : Set ℕ) (i : ℕ) → X i ≡ true → X (flip_item i) ≡ true → (X (i - i % 2) ≡ true) × (X (i - i % 2 + 1) ≡ true)
 both_signs X i here there =
-    elim (cases_Bool (eqb (i % 2) 0)) [
-      | inl e ↦
-          (let even = eqb-true (i % 2) 0 e in
-          let same : i - i % 2 ≡ i = omega arith in
-          (subst (λ k. X k ≡ true) (sym same) here, subst (λ k. X k ≡ true) (flip_even i even ∙ (omega arith)) there))
-      | inr e ↦
-          (let apart = eqb-false (i % 2) 0 e in
-          let odd : i % 2 ≡ 1 = omega (arith, apart) in
-          let same : i - i % 2 + 1 ≡ i = omega arith in
-          (subst (λ k. X k ≡ true) (flip_odd i odd ∙ (omega arith)) there, subst (λ k. X k ≡ true) (sym same) here))
-    ]
+    by_parity (λ k. X k ≡ true → X (flip_item k) ≡ true → (X (k - k % 2) ≡ true) × (X (k - k % 2 + 1) ≡ true)) i
+    (λ e own other. let same : i - i % 2 ≡ i = omega arith in (subst (λ k. X k ≡ true) (sym same) own, subst (λ k. X k ≡ true) (flip_even i e ∙ (omega arith)) other))
+    (λ e own other. let same : i - i % 2 + 1 ≡ i = omega arith in (subst (λ k. X k ≡ true) (flip_odd i e ∙ (omega arith)) other, subst (λ k. X k ≡ true) (sym same) own))
+    here there
 
 pub close_leaf : (t : Table) (X : Set ℕ) (i : ℕ) → i < item_count t → X i ≡ true → X (flip_item i) ≡ true →
     IsLeaf t X Rule.Close (i - i % 2) ((i - i % 2) ∷ (i - i % 2 + 1) ∷ [])

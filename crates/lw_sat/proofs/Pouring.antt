@@ -21,7 +21,7 @@ or_pair true false x = refl
 or_pair false true x = refl
 or_pair false false x = refl
 
-and_pair : (a b x : Bool) → (not (b || false) && (not (a || false) && x)) ≡ (not (a || (b || false)) && x)
+pub and_pair : (a b x : Bool) → (not (b || false) && (not (a || false) && x)) ≡ (not (a || (b || false)) && x)
 and_pair true true x = refl
 and_pair true false x = refl
 and_pair false true x = refl
@@ -45,7 +45,7 @@ removed_both r s u (c, o) d e h k =
 abbrev pub poured : Set ℕ → Set ℕ → ℕ → Set ℕ
 poured X Y n i = (ltb i n && X i) || Y i
 
-below_same : (i n : ℕ) → (n ≡ i → ⊥) → ltb i (n + 1) ≡ ltb i n
+pub below_same : (i n : ℕ) → (n ≡ i → ⊥) → ltb i (n + 1) ≡ ltb i n
 below_same i n apart =
     ⊎_elim
     (λ (l : i < n). lt-ltb i (n + 1) (omega arith) ∙ sym (lt-ltb i n l))

@@ -13,21 +13,8 @@ ghost use Rattle.lw_sat.specs.Sets.{adding, lower, sets, top, AreBelow};
 use crate::board::Board;
 use crate::frame::{Folded, Frame, Side};
 use lw_closure::Closure;
-use lw_formula::Sign;
-use lw_pool::SignedId;
 use lw_proof::{Proof, Rule};
 use std::alloc::{AllocError, Global};
-
-/// The signed formula that has this number.
-pub fn signed(closure: &Closure, item: usize) -> SignedId
-    requires { item < item_count closure.now }
-    ensures { result ≡ item_at closure.now item }
-{
-    SignedId {
-        sign: if item % 2 == 0 { Sign::T } else { Sign::F },
-        form: closure.formula(item / 2),
-    }
-}
 
 /// The proof that begins with the rule on the item and goes on with one proof.
 fn over_one(
@@ -42,7 +29,20 @@ fn over_one(
 {
     let mut subs = Vec::new(alloc);
     subs.push(proof)?;
-    Ok(Proof::new(rule, signed(closure, item), subs))
+    Ok(Proof::new(rule, closure.signed(item), subs))
+}
+
+/// The proof that begins with the Step on the item and goes on with one proof.
+pub fn step_over(
+    alloc: Global,
+    closure: &Closure,
+    item: usize,
+    proof: Proof,
+) -> Result<Proof, AllocError>
+    requires { item < item_count closure.now }
+    ensures { IfOk result (λ p. p ≡ node Rule.Step (item_at closure.now item) (more proof none)) }
+{
+    over_one(alloc, closure, Rule::Step, item, proof)
 }
 
 /// The proof that begins with the rule on the item and goes on with two proofs.
@@ -60,7 +60,7 @@ fn over_two(
     let mut subs = Vec::new(alloc);
     subs.push(first)?;
     subs.push(second)?;
-    Ok(Proof::new(rule, signed(closure, item), subs))
+    Ok(Proof::new(rule, closure.signed(item), subs))
 }
 
 // A rule with one premise, which the proof closes: it is left out where the proof uses nothing of what it adds.

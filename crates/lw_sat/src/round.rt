@@ -11,7 +11,6 @@ ghost use Rattle.lw_sat.specs.Sets.{adding, nothing, AreBelow};
 
 use crate::board::Board;
 use crate::closing::unwind;
-use crate::fold::signed;
 use crate::frame::{Frame, Side};
 use crate::grow::{branch, grow};
 use crate::work::{Work, find};
@@ -46,7 +45,7 @@ fn close(
     ensures uses { Becomes board.old board.new (record (spot_of board.old) { set = adding (listed used) nothing }) }
 {
     board.use_leaf(used);
-    Proof::new(rule, signed(closure, item), Vec::new(alloc))
+    Proof::new(rule, closure.signed(item), Vec::new(alloc))
 }
 
 /// Does what the label asks for first. After an error nothing is known of frames and board.

@@ -13,7 +13,7 @@ ghost use Rattle.lw_sat.specs.Working.{is_nothing, IsQuiet, IsWork};
 
 use crate::board::Board;
 use crate::frame::Side;
-use lw_closure::Closure;
+use lw_closure::{Closure, flip};
 use lw_formula::{Logic, Parts};
 use lw_proof::Rule;
 
@@ -40,14 +40,6 @@ pub enum Work {
     },
     /// There is nothing left to do.
     Nothing,
-}
-
-/// The same formula under the other sign.
-pub fn flip(item: usize) -> usize
-    requires { item < usize.MAX }
-    ensures { result ≡ flip_item item }
-{
-    if item % 2 == 0 { item + 1 } else { item - 1 }
 }
 
 /// Whether the worlds of the logic see themselves.

@@ -5,6 +5,7 @@ use Rattle.lw_formula.specs.Formula.{Formula, depth, modal_count}
 use Rattle.lw_pool.specs.declared.id.SignedId.{SignedId}
 use Rattle.lw_pool.specs.Region.{tree_at}
 use Rattle.lw_model.specs.Bounds.{step_bound}
+use Rattle.lw_model.proofs.Bounds.{step_bound_small}
 use Rattle.lw_proof.specs.Tree.{Tree}
 use Rattle.lw_closure.specs.Table.{Table}
 use Rattle.lw_closure.specs.Keeps.{Keeps}
@@ -14,7 +15,7 @@ use Rattle.lw_counter.specs.Answered.{IsAnswerTo}
 use Rattle.lw_counter.specs.declared.answer.Answer.TheVariants.{Yes, No}
 use Rattle.lw_search.specs.declared.outcome.Outcome.TheVariants.{Closed, Open}
 use Rattle.lw_search.specs.Outcome.{OutcomeFits}
-use Rattle.lw_search.proofs.Depths.{depth_few, step_bound_small}
+use Rattle.lw_search.proofs.Depths.{depth_few}
 use Rattle.lw_search.proofs.Leaning.{closes_lean}
 use Rattle.lw_search.proofs.Bounding.{explored_answers}
 

@@ -20,11 +20,12 @@ use Rattle.lw_formula.proofs.Subformulas.{IsSubformula-trans}
 use Rattle.lw_pool.specs.Region.{tree_at}
 use Rattle.lw_pool.proofs.Naming.{occurs_within}
 use Rattle.lw_model.specs.Bounds.{tree_size, step_bound, world_bound, HasFactsOf, IsWithinBounds, IsChain, HasChainsUpTo, HasShortChains}
+use Rattle.lw_model.proofs.Bounds.{tree_wider, tree_deeper}
 use Rattle.lw_proof.specs.System.{Set, same_signed}
 use Rattle.lw_proof.proofs.Means.{same_signed-Decides}
 use Rattle.lw_closure.specs.Table.{Table, item_count, signed_of}
 use Rattle.lw_closure.specs.Keeps.{Keeps, IsOfClosure}
-use Rattle.lw_closure.proofs.Lifting.{guard_in-cases}
+use Rattle.lw_closure.proofs.Items.{guarded}
 use Rattle.lw_counter.specs.Fragment.{Fragment, world_at, formulas_of}
 use Rattle.lw_counter.specs.Paths.{has_links, IsEdge, Reaches, IsRelated}
 use Rattle.lw_counter.specs.Countermodel.{IsModelOf}
@@ -33,8 +34,7 @@ use Rattle.lw_counter.proofs.Paths.{child_within, reaches_within}
 use Rattle.lw_search.specs.Step.{askers}
 use Rattle.lw_search.specs.Ranked.{IsGoal}
 use Rattle.lw_search.specs.Explored.{HasHeights, IsExplored}
-use Rattle.lw_search.proofs.Counting.{few_askers, guarded}
-use Rattle.lw_search.proofs.Depths.{tree_wider, tree_deeper}
+use Rattle.lw_search.proofs.Counting.{few_askers}
 
 -- a guard has the variables of its formula alone
 guard_variables : (p : List ℕ) (x g : Signed) → guard_of x ≡ Some g → Occurs p g.1 → Occurs p x.1
@@ -52,8 +52,9 @@ guard_variables p _ g e o = cc
 letter_occurs : (L : Logic) (goal : Formula) (p : List ℕ) → IsOfClosure L goal (letter p) → Occurs p goal
 letter_occurs L goal p (inl own) = (occurs_within p goal).1 own
 letter_occurs L goal p (inr (x, g, e, h)) =
-    let inside : Occurs p x.1 = guard_variables p x g (guard_in-cases L goal x g e) ((occurs_within p g.1).1 h) in
-    (occurs_within p goal).1 (IsSubformula-trans (letter p) x.1 goal ((occurs_within p x.1).0 inside) (guarded L goal x g e))
+    let own = guarded L goal x g e in
+    let inside : Occurs p x.1 = guard_variables p x g own.1 ((occurs_within p g.1).1 h) in
+    (occurs_within p goal).1 (IsSubformula-trans (letter p) x.1 goal ((occurs_within p x.1).0 inside) own.0)
 
 -- a chain that only goes down has no more worlds than its first is high, but for one
 chain_short : (m : FiniteModel) (height : ℕ → ℕ) → ((w v : ℕ) → Sees m w v → w ≢ v → height v < height w) → (w : ℕ) (ws : List ℕ) → IsChain m (w ∷ ws) → length ws ≤ height w

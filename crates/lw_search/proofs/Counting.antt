@@ -1,27 +1,24 @@
 -- How many items of a closure pass a test: no more than the goal has modal subformulas.
-use Rattle.std.proofs.Common.{◌≡◌, ℕ, ◌+◌, ◌-◌, ◌/◌, ◌%◌, ◌<◌, ◌≤◌, zero, suc, Bool, true, false, cond, not, ◌||◌, List, length, get_or, Option, Some, None, inl, inr, refl, sym, ap, subst, ◌∙◌, arith}
+use Rattle.std.proofs.Common.{◌≡◌, ℕ, ◌+◌, ◌-◌, ◌<◌, ◌≤◌, zero, suc, Bool, true, false, cond, not, ◌||◌, List, length, get_or, inl, inr, refl, sym, ap, subst, ◌∙◌, arith}
 use Rattle.std.specs.List.{Contains, remove}
-use Rattle.std.specs.Option.{option_map}
-use Rattle.std.proofs.lemmas.Bool.{false≢true, and_parts, or_cases, cases_lt, cases_eq}
+use Rattle.std.specs.Option.{is_some}
+use Rattle.std.proofs.lemmas.Bool.{false≢true, and_from, and_parts, or_cases, cases_lt, cases_eq}
 use Rattle.std.proofs.lemmas.List.{get_or_default}
 use Rattle.std.proofs.lemmas.List.Edits.{length-remove, get_or-remove_below, get_or-remove_above}
-use Rattle.lw_formula.specs.declared.logic.Logic.{Logic}
-use Rattle.lw_formula.specs.declared.logic.Logic.TheVariants.{K, KT, S4, S5, GL, Grz}
+use Rattle.lw_formula.specs.declared.parts.Parts.TheVariants.{Pi}
 use Rattle.lw_formula.specs.declared.sign.Sign.{Sign}
-use Rattle.lw_formula.specs.declared.sign.Sign.TheVariants.{T, F}
 use Rattle.lw_formula.specs.Signs.{opposite}
-use Rattle.lw_formula.specs.Formula.{Formula, nec, poss, is_modal, subformulas, modal_subformulas, modal_count, IsSubformula}
+use Rattle.lw_formula.specs.Formula.{Formula, is_modal, subformulas, modal_subformulas, modal_count, IsSubformula}
 use Rattle.lw_formula.specs.Signed.{Signed}
-use Rattle.lw_formula.specs.Components.{parts_of, guard_of}
 use Rattle.lw_formula.proofs.Members.{Contains-filter}
-use Rattle.lw_formula.proofs.Subformulas.{is_member-Decides, subformulas-IsSubformula}
+use Rattle.lw_formula.proofs.Subformulas.{subformulas-IsSubformula}
 use Rattle.lw_pool.specs.Region.{tree_at}
-use Rattle.lw_proof.specs.Derivation.{is_nu, is_pi, is_subformula}
+use Rattle.lw_proof.specs.Derivation.{is_nu, is_pi}
 use Rattle.lw_closure.specs.Table.{Table, item_count, entry_at, signed_of}
-use Rattle.lw_closure.specs.Keeps.{Keeps, IsOfClosure, guard_in}
-use Rattle.lw_closure.proofs.Lifting.{is_nu-map, is_pi-map}
-use Rattle.lw_counter.proofs.Lifts.{same_rest}
-use Rattle.lw_search.specs.Step.{has_guards, is_some, is_asker, count_below, askers}
+use Rattle.lw_closure.specs.Keeps.{Keeps, has_guards}
+use Rattle.lw_closure.proofs.Items.{same_item, own_item, guarded_item, item_nu, item_pi}
+use Rattle.lw_closure.proofs.OwnPis.{nu_sign, nu_modal, pi_modal}
+use Rattle.lw_search.specs.Step.{is_asker, count_below, askers}
 
 -- what is in a list but not at a place is in what the list is without that place
 left_without : {X : Type 0} (xs : List X) (k : ℕ) → k < length xs → (x : X) → Contains xs x → ¬ (get_or xs k x ≡ x) → Contains (remove xs k) x
@@ -62,44 +59,10 @@ count_within {X} Has test (suc n) xs there apart =
         elsewhere : (last : (x : X) × Contains xs x × Has n x) → test n ≡ true → (i : ℕ) → i < n → test i ≡ true → (x : X) × Contains xs x × Has i x → (x : X) × Contains (remove xs last.1.0) x × Has i x
         elsewhere last e i l t own = (own.0, left_without xs last.1.0 last.1.1 own.0 own.1 (differs last e i l t own), own.2)
 
--- the sign under which a modal formula is a ν
-abbrev nu_sign : Formula → Sign
-nu_sign (nec a) = T
-nu_sign _ = F
-
--- a ν, and a π, is a modal formula under one sign
-nu_modal : (s : Signed) → is_nu (parts_of s) ≡ true → (is_modal s.1 ≡ true) × (s.0 ≡ nu_sign s.1)
-nu_modal (T, nec a) e = (refl, refl)
-nu_modal (F, poss a) e = (refl, refl)
-nu_modal _ e = absurd (false≢true e)
-
-pi_modal : (s : Signed) → is_pi (parts_of s) ≡ true → (is_modal s.1 ≡ true) × (s.0 ≡ opposite (nu_sign s.1))
-pi_modal (F, nec a) e = (refl, refl)
-pi_modal (T, poss a) e = (refl, refl)
-pi_modal _ e = absurd (false≢true e)
-
--- only the guards' logic has formulas in a closure that aren't the goal's
-of_goal : (L : Logic) (goal c : Formula) → has_guards L ≡ false → IsOfClosure L goal c → IsSubformula c goal
-of_goal L goal c none (inl own) = own
-of_goal K goal c none (inr (s, g, e, h)) = cc
-of_goal KT goal c none (inr (s, g, e, h)) = cc
-of_goal S4 goal c none (inr (s, g, e, h)) = cc
-of_goal S5 goal c none (inr (s, g, e, h)) = cc
-of_goal GL goal c none (inr (s, g, e, h)) = cc
-of_goal Grz goal c none (inr guard) = absurd (false≢true (sym none))
-
--- what has a guard is a subformula of the goal
-pub guarded : (L : Logic) (goal : Formula) (s g : Signed) → guard_in L goal s ≡ Some g → IsSubformula s.1 goal
-guarded K goal s g e = cc
-guarded KT goal s g e = cc
-guarded S4 goal s g e = cc
-guarded S5 goal s g e = cc
-guarded GL goal s g e = cc
-guarded Grz goal s g e = go (is_subformula goal s.1) refl e
-  where
-    go : (b : Bool) → is_subformula goal s.1 ≡ b → cond b (guard_of s) None ≡ Some g → IsSubformula s.1 goal
-    go true t e = (subformulas-IsSubformula goal s.1).0 ((is_member-Decides (subformulas goal) s.1).0 t)
-    go false t e = cc
+-- in the logics without guards a label may ask for a step on each π
+pub pi_asks : (t : Table) (i c : ℕ) → has_guards t.logic ≡ false → (entry_at t i).parts ≡ Pi c → is_asker t i ≡ true
+pi_asks t i c none e =
+    and_from (is_pi (entry_at t i).parts) (not (has_guards t.logic) || is_some (entry_at t i).guard) (ap is_pi e) (ap (λ b. not b || is_some (entry_at t i).guard) none)
 
 module _ (ts : List Formula) (t : Table) (keeps : Keeps ts t) where
   abbrev s : ℕ → Signed
@@ -110,31 +73,6 @@ module _ (ts : List Formula) (t : Table) (keeps : Keeps ts t) where
 
   abbrev goal : Formula
   goal = tree_at ts t.goal
-
-  -- items that are the same signed formula are one
-  pub same_item : (i j : ℕ) → i < n → j < n → s i ≡ s j → i ≡ j
-  same_item i j l k e =
-      let half : i / 2 ≡ j / 2 = keeps.distinct (i / 2) (j / 2) (omega arith) (omega arith) (ap (λ (x : Signed). x.1) e) in
-      let rest : i % 2 ≡ j % 2 = same_rest (i % 2) (j % 2) (omega arith) (omega arith) (ap (λ (x : Signed). x.0) e) in
-      omega arith
-
-  -- where there are no guards, each item is of a subformula of the goal
-  pub own_item : has_guards t.logic ≡ false → (i : ℕ) → i < n → IsSubformula (s i).1 goal
-  own_item none i l = of_goal t.logic goal (s i).1 none ((keeps.exact (s i).1).0 (i / 2, omega arith, refl))
-
-  -- and in each logic one that has a guard
-  pub guarded_item : (i : ℕ) → i < n → is_some (entry_at t i).guard ≡ true → IsSubformula (s i).1 goal
-  guarded_item i l e = go (entry_at t i).guard refl e
-    where
-      go : (g : Option ℕ) → (entry_at t i).guard ≡ g → is_some g ≡ true → IsSubformula (s i).1 goal
-      go None q e = absurd (false≢true e)
-      go (Some k) q e = guarded t.logic goal (s i) (s k) (sym (keeps.guard i l) ∙ ap (option_map s) q)
-
-  item_nu : (i : ℕ) → i < n → is_nu (entry_at t i).parts ≡ true → is_nu (parts_of (s i)) ≡ true
-  item_nu i l e = ap is_nu (sym (keeps.parts i l)) ∙ is_nu-map s (entry_at t i).parts ∙ e
-
-  item_pi : (i : ℕ) → i < n → is_pi (entry_at t i).parts ≡ true → is_pi (parts_of (s i)) ≡ true
-  item_pi i l e = ap is_pi (sym (keeps.parts i l)) ∙ is_pi-map s (entry_at t i).parts ∙ e
 
   -- the items that pass a test are no more than the goal's modal subformulas, where each is of one of these, under the sign that goes with it
   few_signed : (test : ℕ → Bool) (sign : Formula → Sign) →
@@ -151,15 +89,15 @@ module _ (ts : List Formula) (t : Table) (keeps : Keeps ts t) where
       apart i j c l k e d p q =
           let same : (s i).1 ≡ (s j).1 = p ∙ sym q in
           let signs : (s i).0 ≡ (s j).0 = (each i l e).0.1 ∙ ap sign same ∙ sym (each j k d).0.1 in
-          same_item i j l k (λ x. (signs x, same x))
+          same_item ts t keeps i j l k (λ x. (signs x, same x))
 
   -- ν items of the goal's subformulas are no more than the goal's modal subformulas
   pub few_nus : (test : ℕ → Bool) → ((i : ℕ) → i < n → test i ≡ true → (is_nu (entry_at t i).parts ≡ true) × IsSubformula (s i).1 goal) → count_below test n ≤ modal_count goal
-  few_nus test each = few_signed test nu_sign (λ i l e. (nu_modal (s i) (item_nu i l (each i l e).0), (each i l e).1))
+  few_nus test each = few_signed test nu_sign (λ i l e. (nu_modal (s i) (item_nu ts t keeps i l ∙ (each i l e).0), (each i l e).1))
 
   -- neither are π items
   pub few_pis : (test : ℕ → Bool) → ((i : ℕ) → i < n → test i ≡ true → (is_pi (entry_at t i).parts ≡ true) × IsSubformula (s i).1 goal) → count_below test n ≤ modal_count goal
-  few_pis test each = few_signed test (λ f. opposite (nu_sign f)) (λ i l e. (pi_modal (s i) (item_pi i l (each i l e).0), (each i l e).1))
+  few_pis test each = few_signed test (λ f. opposite (nu_sign f)) (λ i l e. (pi_modal (s i) (item_pi ts t keeps i l ∙ (each i l e).0), (each i l e).1))
 
   -- neither are the items on which a label may ask for a step
   pub few_askers : askers t ≤ modal_count goal
@@ -167,8 +105,8 @@ module _ (ts : List Formula) (t : Table) (keeps : Keeps ts t) where
       let both = and_parts (is_pi (entry_at t i).parts) (not (has_guards t.logic) || is_some (entry_at t i).guard) e in (
         both.0,
         elim (or_cases (not (has_guards t.logic)) (is_some (entry_at t i).guard) both.1) [
-          | inl none ↦ own_item (not_true (has_guards t.logic) none) i l
-          | inr some ↦ guarded_item i l some
+          | inl none ↦ own_item ts t keeps (not_true (has_guards t.logic) none) i l
+          | inr some ↦ guarded_item ts t keeps i l some
         ],
       ))
     where

@@ -1,14 +1,9 @@
--- The modal depth is at most the number of modal subformulas, and what that means for the bounds.
-use Rattle.std.proofs.Common.{◌≡◌, ℕ, ◌+◌, ◌*◌, ◌^◌, ◌<◌, ◌≤◌, zero, suc, max, true, ◌⊎◌, inl, inr, refl, arith}
+-- The modal depth is at most the number of modal subformulas.
+use Rattle.std.proofs.Common.{◌≡◌, ℕ, ◌+◌, ◌<◌, ◌≤◌, zero, suc, max, true, ◌⊎◌, inl, inr, refl, arith}
 use Rattle.std.proofs.lemmas.Bool.{cases_lt}
-use Rattle.std.proofs.lemmas.Nat.{mul-le}
-use Rattle.std.proofs.Math.Nat.{pow-suc, one-le-pow, mul-le-mul_right}
-use Rattle.lw_formula.specs.declared.logic.Logic.{Logic}
-use Rattle.lw_formula.specs.declared.logic.Logic.TheVariants.{K, KT, S4, S5, GL, Grz}
 use Rattle.lw_formula.specs.Formula.{Formula, letter, falsum, verum, neg, conj, disj, impl, equi, nec, poss, depth, is_modal, subformulas, modal_subformulas, modal_count, IsSubformula}
 use Rattle.lw_formula.proofs.Members.{Contains-filter}
 use Rattle.lw_formula.proofs.Subformulas.{subformulas-IsSubformula}
-use Rattle.lw_model.specs.Bounds.{step_bound, tree_size}
 use Rattle.lw_search.specs.Step.{count_below}
 use Rattle.lw_search.proofs.Counting.{count_within}
 
@@ -62,33 +57,3 @@ depth_few a =
     (λ k l _. (let r = layer a k l in (r.0, Contains-filter is_modal (subformulas a) r.0 ((subformulas-IsSubformula a r.0).1 r.1.within) r.1.modal, r.1)))
     (λ i j c _ _ _ _ p q. (let one : depth c ≡ i + 1 = p.deep in let other : depth c ≡ j + 1 = q.deep in omega arith)) in
     omega (arith, count_all (depth a))
-
--- a square is no less than its root
-square : (m : ℕ) → m + 1 ≤ (m + 1) ^ 2
-square m =
-    let two : (m + 1) ^ 2 ≡ (m + 1) ^ 1 * (m + 1) = pow-suc (m + 1) 1 in
-    let one : 1 ≤ (m + 1) ^ 1 = one-le-pow 1 (m + 1) (omega arith) in
-    omega (arith, mul-le-mul_right (m + 1) one)
-
--- the bound on steps is within the bound of lean proofs
-pub step_bound_small : (L : Logic) (m d : ℕ) → d ≤ m → step_bound L m d ≤ (m + 1) ^ 2
-step_bound_small K m d l = omega (arith, square m)
-step_bound_small KT m d l = omega (arith, square m)
-step_bound_small S4 m d l = omega arith
-step_bound_small S5 m d l = omega (arith, square m)
-step_bound_small GL m d l = omega (arith, square m)
-step_bound_small Grz m d l = omega (arith, square m)
-
--- a tree of more children is no smaller, and neither is a deeper one
-pub tree_wider : (m n b : ℕ) → m ≤ n → tree_size m b ≤ tree_size n b
-tree_wider m n zero l = omega arith
-tree_wider m n (suc b) l = omega (arith, mul-le m (tree_size m b) n (tree_size n b) l (tree_wider m n b l))
-
-tree_some : (m b : ℕ) → 1 ≤ tree_size m b
-tree_some m zero = omega arith
-tree_some m (suc b) = omega arith
-
-pub tree_deeper : (m b c : ℕ) → b ≤ c → tree_size m b ≤ tree_size m c
-tree_deeper m zero c l = tree_some m c
-tree_deeper m (suc b) zero l = absurd (omega arith)
-tree_deeper m (suc b) (suc c) l = omega (arith, mul-le m (tree_size m b) m (tree_size m c) (omega arith) (tree_deeper m b c (omega arith)))

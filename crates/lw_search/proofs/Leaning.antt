@@ -1,13 +1,13 @@
 -- A proof that closes the goal's item is a lean proof of the goal, read with the formulas of a pool that has kept the closure's.
-use Rattle.std.proofs.Common.{◌≡◌, ℕ, ◌+◌, ◌/◌, ◌^◌, ◌<◌, ◌≤◌, max, Bool, true, false, if◌then◌else◌, nat_eq, ◌&&◌, ◌||◌, List, [], ◌∷◌, Option, Some, None, inl, inr, refl, sym, ap, subst, ◌∙◌, arith, eqb-true, eq-eqb}
+use Rattle.std.proofs.Common.{◌≡◌, ℕ, ◌+◌, ◌/◌, ◌^◌, ◌<◌, ◌≤◌, false, nat_eq, ◌&&◌, List, [], ◌∷◌, Option, Some, None, inl, inr, refl, sym, ap, subst, ◌∙◌, arith, eqb-true, eq-eqb}
 use Rattle.std.specs.Bool.{IsTrue, ⊤}
 use Rattle.std.specs.List.{list_any}
 use Rattle.std.specs.Option.{option_map, option_to_list}
-use Rattle.std.proofs.lemmas.Bool.{or_cases, or_left, or_right, and_parts, and_from, false≢true}
+use Rattle.std.proofs.lemmas.Bool.{or_cases, or_left, and_parts, false≢true}
 use Rattle.lw_formula.specs.declared.logic.Logic.{Logic}
 use Rattle.lw_formula.specs.declared.logic.Logic.TheVariants.{K, KT, S4, S5, GL, Grz}
 use Rattle.lw_formula.specs.declared.parts.Parts.{Parts}
-use Rattle.lw_formula.specs.declared.parts.Parts.TheVariants.{Nothing, One, Two, Nu, Pi}
+use Rattle.lw_formula.specs.declared.parts.Parts.TheVariants.{One, Two, Nu, Pi}
 use Rattle.lw_formula.specs.declared.sign.Sign.TheVariants.{F}
 use Rattle.lw_formula.specs.Formula.{Formula, modal_count, IsSubformula}
 use Rattle.lw_formula.specs.Signed.{Signed, SignedSet}
@@ -16,63 +16,25 @@ use Rattle.lw_formula.proofs.Subformulas.{IsSubformula-refl}
 use Rattle.lw_pool.specs.declared.id.SignedId.{SignedId}
 use Rattle.lw_pool.specs.Region.{tree_at, signed_at, IsLive}
 use Rattle.lw_proof.specs.declared.rule.Rule.{Rule}
-use Rattle.lw_proof.specs.Tree.{Tree, Forest, node, none, more, map_tree, map_forest, EachPrincipal, EachOfAll}
-use Rattle.lw_proof.specs.System.{Set, trees, same_signed, nu_of}
-use Rattle.lw_proof.specs.Derivation.{has_cut, is_nu, is_pi, is_modal_part, side, plus, kept, added, premises, Applies, ClosedAll, only}
-use Rattle.lw_proof.specs.Lean.{own_steps, steps, steps_all, HasNew, AllHaveNew, Gains, Grows, GrowAll, Lean}
+use Rattle.lw_proof.specs.Tree.{Tree, Forest, node, none, more, map_tree, map_forest}
+use Rattle.lw_proof.specs.System.{Set, trees}
+use Rattle.lw_proof.specs.Derivation.{is_nu, is_modal_part, side, plus, kept, added, premises, Applies, ClosedAll, only}
+use Rattle.lw_proof.specs.Lean.{steps, HasNew, AllHaveNew, Gains, Grows, GrowAll, Lean}
 use Rattle.lw_proof.specs.Pooled.{proof_at, IsProofLive}
+use Rattle.lw_proof.proofs.Mapped.{twice_mapped, steps_mapped, each_mapped}
 use Rattle.lw_proof.proofs.Means.{same_signed-Decides}
 use Rattle.lw_closure.specs.Mapping.{OfBoth, OfParts, map_parts}
 use Rattle.lw_closure.specs.Table.{Table, item_count, entry_at, flip_item, item_at, signed_of}
 use Rattle.lw_closure.specs.Items.{is_nu_to, items, cuts, ItemDerives}
-use Rattle.lw_closure.specs.Keeps.{Keeps, guard_in}
-use Rattle.lw_closure.proofs.Lifting.{lifted, IsLifted, AreLifted, applies_below, premises_lifted, s_flip, is_nu-map, is_pi-map, is_subformula-true}
-use Rattle.lw_closure.proofs.Numbers.{any_below_cases}
-use Rattle.lw_counter.proofs.Lifts.{nu_before, nu_of-parts, is_nu_to-same, any_below-found}
+use Rattle.lw_closure.specs.Keeps.{Keeps}
+use Rattle.lw_closure.proofs.Items.{cut_unguarded, signed_flip, same_item, own_guard, own_item, item_pi}
+use Rattle.lw_closure.proofs.Lifting.{lifted, IsLifted, AreLifted, applies_below, premises_lifted}
+use Rattle.lw_closure.proofs.Numbers.{any_below_cases, is_nu_to-true}
+use Rattle.lw_closure.proofs.Origins.{IsFrom, AreFrom, IsOwnStep, premises_from}
+use Rattle.lw_closure.proofs.OwnPis.{IsOwnPi, nu_no_pi, guard_nu, own_components}
 use Rattle.lw_sat.specs.Sets.{among}
 use Rattle.lw_sat.specs.Closing.{Closes}
 use Rattle.lw_search.specs.Ranked.{IsGoal}
-use Rattle.lw_search.specs.Step.{has_guards}
-use Rattle.lw_search.proofs.Counting.{same_item, own_item}
-use Rattle.lw_search.proofs.OwnPis.{IsOwnPi, nu_no_pi, guard_nu, own_components}
-
--- the maps of a proof: one after another, and no more Steps than before
-mutual
-  twice_mapped : {A B C : Type 0} (f : A → B) (g : B → C) (p : Tree A) → map_tree g (map_tree f p) ≡ map_tree (λ a. g (f a)) p
-  twice_mapped f g (node r x ps) = ap (node r (g (f x))) (all_twice_mapped f g ps)
-
-  all_twice_mapped : {A B C : Type 0} (f : A → B) (g : B → C) (ps : Forest A) → map_forest g (map_forest f ps) ≡ map_forest (λ a. g (f a)) ps
-  all_twice_mapped f g none = refl
-  all_twice_mapped f g (more p ps) = λ i. more (twice_mapped f g p i) (all_twice_mapped f g ps i)
-
-mutual
-  steps_mapped : {A B : Type 0} (f : A → B) (p : Tree A) → steps (map_tree f p) ≡ steps p
-  steps_mapped f (node r x ps) = ap (λ k. own_steps r + k) (all_steps_mapped f ps)
-
-  all_steps_mapped : {A B : Type 0} (f : A → B) (ps : Forest A) → steps_all (map_forest f ps) ≡ steps_all ps
-  all_steps_mapped f none = refl
-  all_steps_mapped f (more p ps) = λ i. max (steps_mapped f p i) (all_steps_mapped f ps i)
-
-mutual
-  each_mapped : {A B : Type 0} (f : A → B) (P : A → Type 0) (Q : B → Type 0) → ((a : A) → P a → Q (f a)) → (p : Tree A) → EachPrincipal P p → EachPrincipal Q (map_tree f p)
-  each_mapped f P Q h (node r x ps) e = (h x e.0, each_of_all_mapped f P Q h ps e.1)
-
-  each_of_all_mapped : {A B : Type 0} (f : A → B) (P : A → Type 0) (Q : B → Type 0) → ((a : A) → P a → Q (f a)) → (ps : Forest A) → EachOfAll P ps → EachOfAll Q (map_forest f ps)
-  each_of_all_mapped f P Q h none e = tt
-  each_of_all_mapped f P Q h (more p ps) e = (each_mapped f P Q h p e.0, each_of_all_mapped f P Q h ps e.1)
-
--- in the guards' logic the guard that a search adds is that of the calculus, where the formula is one of the goal's
-guard_own : (goal : Formula) (x : Signed) → IsSubformula x.1 goal → guard_in Grz goal x ≡ guard_of x
-guard_own goal x h = ap (λ b. if b then guard_of x else None) (is_subformula-true goal x.1 h)
-
--- in the logic with cuts there are no guards
-cut_unguarded : (L : Logic) → has_cut L ≡ true → has_guards L ≡ false
-cut_unguarded S5 e = refl
-cut_unguarded K e = refl
-cut_unguarded KT e = refl
-cut_unguarded S4 e = refl
-cut_unguarded GL e = refl
-cut_unguarded Grz e = absurd (false≢true e)
 
 module _ (ts : List Formula) (t : Table) (keeps : Keeps ts t) where
   abbrev s : ℕ → Signed
@@ -93,14 +55,15 @@ module _ (ts : List Formula) (t : Table) (keeps : Keeps ts t) where
   abbrev AllLifted : List (Set ℕ) → List SignedSet → Type 0
   AllLifted Xs Ys = AreLifted ts t keeps Xs Ys
 
-  -- each signed formula of Y is that of an item of X
-  abbrev IsFrom : Set ℕ → SignedSet → Type 0
-  IsFrom X Y = (x : Signed) → IsTrue (Y x) → (i : ℕ) × IsTrue (X i) × (s i ≡ x)
+  -- where each signed formula of Y is that of an item of X
+  abbrev From : Set ℕ → SignedSet → Type 0
+  From X Y = IsFrom ts t keeps X Y
 
-  abbrev AreFrom : List (Set ℕ) → List SignedSet → Type 0
-  AreFrom [] [] = ⊤
-  AreFrom (X ∷ Xs) (Y ∷ Ys) = IsFrom X Y × AreFrom Xs Ys
-  AreFrom _ _ = ⊥
+  abbrev AllFrom : List (Set ℕ) → List SignedSet → Type 0
+  AllFrom Xs Ys = AreFrom ts t keeps Xs Ys
+
+  abbrev OwnStep : Rule → ℕ → Type 0
+  OwnStep r i = IsOwnStep ts t keeps r i
 
   -- each π of the set is one of the goal's formulas
   abbrev IsGood : Set ℕ → Type 0
@@ -109,103 +72,6 @@ module _ (ts : List Formula) (t : Table) (keeps : Keeps ts t) where
   abbrev AreGood : List (Set ℕ) → Type 0
   AreGood [] = ⊤
   AreGood (X ∷ Xs) = IsGood X × AreGood Xs
-
-  -- these signed formulas are those of these items
-  abbrev ListFrom : List ℕ → List Signed → Type 0
-  ListFrom cs ds = IsFrom (λ i. list_any (λ c. nat_eq c i) cs) (λ x. list_any (λ d. same_signed d x) ds)
-
-  from_none : (cs : List ℕ) → ListFrom cs []
-  from_none cs x e = absurd (false≢true e)
-
-  from_more : (c : ℕ) (cs : List ℕ) (ds : List Signed) → ListFrom cs ds → ListFrom (c ∷ cs) (s c ∷ ds)
-  from_more c cs ds h x e = elim (or_cases (same_signed (s c) x) (list_any (λ d. same_signed d x) ds) e) [
-    | inl here ↦ (c, or_left (nat_eq c c) (list_any (λ k. nat_eq k c) cs) (eq-eqb c c refl), (same_signed-Decides (s c) x).0 here)
-    | inr there ↦ (let r = h x there in (r.0, or_right (nat_eq c r.0) (list_any (λ k. nat_eq k r.0) cs) r.1, r.2))
-  ]
-
-  from_side : (c : ℕ) (d : Option ℕ) → ListFrom (side c d) (side (s c) (option_map s d))
-  from_side c None = from_more c [] [] (from_none [])
-  from_side c (Some d) = from_more c (d ∷ []) (s d ∷ []) (from_more d [] [] (from_none []))
-
-  from_options : (g : Option ℕ) → ListFrom (option_to_list g) (option_to_list (option_map s g))
-  from_options None = from_none []
-  from_options (Some k) = from_more k [] [] (from_none [])
-
-  own_guard : (i : ℕ) → t.logic ≡ Grz → i < n → IsSubformula (s i).1 goal → option_map s (entry_at t i).guard ≡ guard_of (s i)
-  own_guard i q l own = keeps.guard i l ∙ ap (λ L. guard_in L goal (s i)) q ∙ guard_own goal (s i) own
-
-  from_added : (L : Logic) (i c : ℕ) → t.logic ≡ L → i < n → IsSubformula (s i).1 goal → ListFrom (added (items t) L i c) (added trees L (s i) (s c))
-  from_added GL i c q l own =
-      subst (λ f. ListFrom (c ∷ flip_item i ∷ []) (s c ∷ f ∷ [])) (s_flip ts t keeps i)
-      (from_more c (flip_item i ∷ []) (s (flip_item i) ∷ []) (from_more (flip_item i) [] [] (from_none [])))
-  from_added Grz i c q l own =
-      from_more c (option_to_list (entry_at t i).guard) (option_to_list (guard_of (s i)))
-      (subst (λ o. ListFrom (option_to_list (entry_at t i).guard) (option_to_list o)) (own_guard i q l own) (from_options (entry_at t i).guard))
-  from_added K i c q l own = from_more c [] [] (from_none [])
-  from_added KT i c q l own = from_more c [] [] (from_none [])
-  from_added S4 i c q l own = from_more c [] [] (from_none [])
-  from_added S5 i c q l own = from_more c [] [] (from_none [])
-
-  plus_from : (cs : List ℕ) (ds : List Signed) (X : Set ℕ) (Y : SignedSet) → ListFrom cs ds → IsFrom X Y → IsFrom (plus (items t) cs X) (plus trees ds Y)
-  plus_from cs ds X Y new old x e = elim (or_cases (list_any (λ d. same_signed d x) ds) (Y x) e) [
-    | inl a ↦ (let r = new x a in (r.0, or_left (list_any (λ c. nat_eq c r.0) cs) (X r.0) r.1, r.2))
-    | inr b ↦ (let r = old x b in (r.0, or_right (list_any (λ c. nat_eq c r.0) cs) (X r.0) r.1, r.2))
-  ]
-
-  under_from : (X : Set ℕ) (Y : SignedSet) → Lifted X Y → IsFrom X Y → IsFrom ((items t).under X) (trees.under Y)
-  under_from X Y w h x e =
-      let d = h (nu_of x) e in
-      let l : d.0 < n = (w d.0 d.1).0 in
-      let b = nu_before s (parts d.0) x (keeps.parts d.0 l ∙ ap parts_of d.2 ∙ nu_of-parts x) in (
-        b.0,
-        any_below-found (λ j. X j && is_nu_to b.0 (parts j)) n d.0 l (and_from (X d.0) (is_nu_to b.0 (parts d.0)) d.1 (ap (is_nu_to b.0) b.1 ∙ is_nu_to-same b.0)),
-        b.2,
-      )
-
-  -- what a test of components says of an item of X it says of its signed formula
-  own_from : (test : Parts ℕ → Bool) (told : Parts Signed → Bool) → ((p : Parts ℕ) → told (map_parts s p) ≡ test p) → (X : Set ℕ) (Y : SignedSet) → Lifted X Y → IsFrom X Y →
-      IsFrom (λ i. test (parts i) && X i) (λ x. told (parts_of x) && Y x)
-  own_from test told same X Y w h x e =
-      let both = and_parts (told (parts_of x)) (Y x) e in
-      let d = h x both.1 in
-      let l : d.0 < n = (w d.0 d.1).0 in
-      (d.0, and_from (test (parts d.0)) (X d.0) (sym (same (parts d.0)) ∙ ap told (keeps.parts d.0 l ∙ ap parts_of d.2) ∙ both.0) d.1, d.2)
-
-  kept_from : (L : Logic) (X : Set ℕ) (Y : SignedSet) → Lifted X Y → IsFrom X Y → IsFrom (kept (items t) L X) (kept trees L Y)
-  kept_from K X Y w h = under_from X Y w h
-  kept_from KT X Y w h = under_from X Y w h
-  kept_from S4 X Y w h = own_from is_nu is_nu (is_nu-map s) X Y w h
-  kept_from S5 X Y w h = own_from is_modal_part is_modal_part (λ p i. is_nu-map s p i || is_pi-map s p i) X Y w h
-  kept_from Grz X Y w h = own_from is_nu is_nu (is_nu-map s) X Y w h
-  kept_from GL X Y w h = λ x e. elim (or_cases (is_nu (parts_of x) && Y x) (Y (nu_of x)) e) [
-    | inl own ↦ (let r = own_from is_nu is_nu (is_nu-map s) X Y w h x own in (r.0, or_left (is_nu (parts r.0) && X r.0) ((items t).under X r.0) r.1, r.2))
-    | inr below ↦ (let r = under_from X Y w h x below in (r.0, or_right (is_nu (parts r.0) && X r.0) ((items t).under X r.0) r.1, r.2))
-  ]
-
-  -- a Step is on one of the goal's formulas
-  abbrev IsOwnStep : Rule → ℕ → Type 0
-  IsOwnStep Rule.Step i = IsSubformula (s i).1 goal
-  IsOwnStep _ i = ⊤
-
-  premises_from : (r : Rule) (i : ℕ) (p : Parts ℕ) (X : Set ℕ) (Y : SignedSet) → i < n → IsOwnStep r i → Lifted X Y → IsFrom X Y →
-      AreFrom (premises (items t) t.logic r i p X) (premises trees t.logic r (s i) (map_parts s p) Y)
-  premises_from Rule.One i (One c d) X Y l o w h = (plus_from (side c d) (side (s c) (option_map s d)) X Y (from_side c d) h, tt)
-  premises_from Rule.Two i (Two p q) X Y l o w h = (
-    plus_from (side p.0 p.1) (side (s p.0) (option_map s p.1)) X Y (from_side p.0 p.1) h,
-    (plus_from (side q.0 q.1) (side (s q.0) (option_map s q.1)) X Y (from_side q.0 q.1) h, tt),
-  )
-  premises_from Rule.Refl i (Nu c) X Y l o w h = (plus_from (c ∷ []) (s c ∷ []) X Y (from_more c [] [] (from_none [])) h, tt)
-  premises_from Rule.Step i (Pi c) X Y l o w h =
-      (plus_from (added (items t) t.logic i c) (added trees t.logic (s i) (s c)) (kept (items t) t.logic X) (kept trees t.logic Y) (from_added t.logic i c refl l o) (kept_from t.logic X Y w h), tt)
-  premises_from Rule.Cut i p X Y l o w h = (
-    plus_from (i ∷ []) (s i ∷ []) X Y (from_more i [] [] (from_none [])) h,
-    (
-      subst (λ f. IsFrom (plus (items t) (flip_item i ∷ []) X) (plus trees (f ∷ []) Y)) (s_flip ts t keeps i)
-          (plus_from (flip_item i ∷ []) (s (flip_item i) ∷ []) X Y (from_more (flip_item i) [] [] (from_none [])) h),
-      tt,
-    ),
-  )
-  premises_from _ i p X Y l o w h = tt
 
   -- a derivation comes from good sets to good ones alone
   abbrev ListGood : List ℕ → Type 0
@@ -225,7 +91,7 @@ module _ (ts : List Formula) (t : Table) (keeps : Keeps ts t) where
   good_side c (Some d) g = good_more c (d ∷ []) g.0 (good_more d [] g.1 good_none)
 
   good_flip : (i : ℕ) → IsSubformula (s i).1 goal → IsOwnPi goal (s (flip_item i))
-  good_flip i own = subst (IsOwnPi goal) (sym (s_flip ts t keeps i)) (λ _. own)
+  good_flip i own = subst (IsOwnPi goal) (sym (signed_flip ts t i)) (λ _. own)
 
   good_guard : (i : ℕ) (g : Option ℕ) → option_map s g ≡ guard_of (s i) → ListGood (option_to_list g)
   good_guard i None e = good_none
@@ -233,7 +99,7 @@ module _ (ts : List Formula) (t : Table) (keeps : Keeps ts t) where
 
   good_added : (L : Logic) (i c : ℕ) → t.logic ≡ L → i < n → IsSubformula (s i).1 goal → IsOwnPi goal (s c) → ListGood (added (items t) L i c)
   good_added GL i c q l own g = good_more c (flip_item i ∷ []) g (good_more (flip_item i) [] (good_flip i own) good_none)
-  good_added Grz i c q l own g = good_more c (option_to_list (entry_at t i).guard) g (good_guard i (entry_at t i).guard (own_guard i q l own))
+  good_added Grz i c q l own g = good_more c (option_to_list (entry_at t i).guard) g (good_guard i (entry_at t i).guard (own_guard ts t keeps i q l own))
   good_added K i c q l own g = good_more c [] g good_none
   good_added KT i c q l own g = good_more c [] g good_none
   good_added S4 i c q l own g = good_more c [] g good_none
@@ -246,14 +112,7 @@ module _ (ts : List Formula) (t : Table) (keeps : Keeps ts t) where
   under_good X i e =
       let found = any_below_cases (λ j. X j && is_nu_to i (parts j)) n e in
       let both = and_parts (X found.0) (is_nu_to i (parts found.0)) found.2 in
-      nu_good (parts found.0) both.1 (own_components ts t keeps found.0 found.1)
-    where
-      nu_good : (p : Parts ℕ) → is_nu_to i p ≡ true → OfParts (λ j. IsOwnPi goal (s j)) p → IsOwnPi goal (s i)
-      nu_good (Nu c) q g = subst (λ k. IsOwnPi goal (s k)) (eqb-true c i q) g
-      nu_good Nothing q g = absurd (false≢true q)
-      nu_good (One a b) q g = absurd (false≢true q)
-      nu_good (Two a b) q g = absurd (false≢true q)
-      nu_good (Pi c) q g = absurd (false≢true q)
+      subst (OfParts (λ j. IsOwnPi goal (s j))) (is_nu_to-true i (parts found.0) both.1) (own_components ts t keeps found.0 found.1)
 
   kept_good : (L : Logic) (X : Set ℕ) → IsGood X → IsGood (kept (items t) L X)
   kept_good K X h = under_good X
@@ -271,7 +130,7 @@ module _ (ts : List Formula) (t : Table) (keeps : Keeps ts t) where
   IsOwnCut Rule.Cut i = IsSubformula (s i).1 goal
   IsOwnCut _ i = ⊤
 
-  premises_good : (r : Rule) (i : ℕ) (p : Parts ℕ) (X : Set ℕ) → i < n → IsOwnStep r i → IsOwnCut r i → OfParts (λ j. IsOwnPi goal (s j)) p → IsGood X →
+  premises_good : (r : Rule) (i : ℕ) (p : Parts ℕ) (X : Set ℕ) → i < n → OwnStep r i → IsOwnCut r i → OfParts (λ j. IsOwnPi goal (s j)) p → IsGood X →
       AreGood (premises (items t) t.logic r i p X)
   premises_good Rule.One i (One c d) X l o u g h = (plus_good (side c d) X (good_side c d g) h, tt)
   premises_good Rule.Two i (Two p q) X l o u g h = (plus_good (side p.0 p.1) X (good_side p.0 p.1 g.0) h, (plus_good (side q.0 q.1) X (good_side q.0 q.1 g.1) h, tt))
@@ -282,8 +141,8 @@ module _ (ts : List Formula) (t : Table) (keeps : Keeps ts t) where
   premises_good _ i p X l o u g h = tt
 
   -- what a rule is used on
-  own_step : (r : Rule) (i : ℕ) (X : Set ℕ) → i < n → IsGood X → Applies (items t) (cuts t) t.logic X r i → IsOwnStep r i
-  own_step Rule.Step i X l h a = h i a.1 (ap is_pi (sym (keeps.parts i l)) ∙ is_pi-map s (parts i) ∙ a.0)
+  own_step : (r : Rule) (i : ℕ) (X : Set ℕ) → i < n → IsGood X → Applies (items t) (cuts t) t.logic X r i → OwnStep r i
+  own_step Rule.Step i X l h a = h i a.1 (item_pi ts t keeps i l ∙ a.0)
   own_step _ i X l h a = tt
 
   own_cut : (r : Rule) (i : ℕ) (X : Set ℕ) → i < n → Applies (items t) (cuts t) t.logic X r i → IsOwnCut r i
@@ -291,7 +150,7 @@ module _ (ts : List Formula) (t : Table) (keeps : Keeps ts t) where
   own_cut _ i X l a = tt
 
   -- what is new among items is new among their signed formulas
-  new_lifted : (X Z : Set ℕ) (Y V : SignedSet) → Lifted X Y → IsFrom X Y → Lifted Z V → HasNew X Z → HasNew Y V
+  new_lifted : (X Z : Set ℕ) (Y V : SignedSet) → Lifted X Y → From X Y → Lifted Z V → HasNew X Z → HasNew Y V
   new_lifted X Z Y V w h v new = (
     s new.0,
     (v new.0 new.1).1,
@@ -302,31 +161,31 @@ module _ (ts : List Formula) (t : Table) (keeps : Keeps ts t) where
         ),
   )
 
-  all_new_lifted : (X : Set ℕ) (Y : SignedSet) → Lifted X Y → IsFrom X Y → (Zs : List (Set ℕ)) (Vs : List SignedSet) → AllLifted Zs Vs → AllHaveNew X Zs → AllHaveNew Y Vs
+  all_new_lifted : (X : Set ℕ) (Y : SignedSet) → Lifted X Y → From X Y → (Zs : List (Set ℕ)) (Vs : List SignedSet) → AllLifted Zs Vs → AllHaveNew X Zs → AllHaveNew Y Vs
   all_new_lifted X Y w h [] [] v new = tt
   all_new_lifted X Y w h [] (V ∷ Vs) v new = absurd v
   all_new_lifted X Y w h (Z ∷ Zs) [] v new = absurd v
   all_new_lifted X Y w h (Z ∷ Zs) (V ∷ Vs) v new = (new_lifted X Z Y V w h v.0 new.0, all_new_lifted X Y w h Zs Vs v.1 new.1)
 
-  gains_lifted : (r : Rule) (X : Set ℕ) (Y : SignedSet) → Lifted X Y → IsFrom X Y → (Zs : List (Set ℕ)) (Vs : List SignedSet) → AllLifted Zs Vs → Gains r X Zs → Gains r Y Vs
+  gains_lifted : (r : Rule) (X : Set ℕ) (Y : SignedSet) → Lifted X Y → From X Y → (Zs : List (Set ℕ)) (Vs : List SignedSet) → AllLifted Zs Vs → Gains r X Zs → Gains r Y Vs
   gains_lifted Rule.Step X Y w h Zs Vs v new = tt
   gains_lifted _ X Y w h Zs Vs v new = all_new_lifted X Y w h Zs Vs v new
 
   mutual
-    grows_lifted : (p : Tree ℕ) (X : Set ℕ) (Y : SignedSet) → Lifted X Y → IsFrom X Y → IsGood X → ItemDerives t X p → Grows (items t) t.logic X p → Grows trees t.logic Y (map_tree s p)
+    grows_lifted : (p : Tree ℕ) (X : Set ℕ) (Y : SignedSet) → Lifted X Y → From X Y → IsGood X → ItemDerives t X p → Grows (items t) t.logic X p → Grows trees t.logic Y (map_tree s p)
     grows_lifted (node r i ps) X Y w h g c new =
         let l : i < n = applies_below ts t keeps X Y w r i c.0 in
-        let o : IsOwnStep r i = own_step r i X l g c.0 in
+        let o : OwnStep r i = own_step r i X l g c.0 in
         let Zs : List (Set ℕ) = premises (items t) t.logic r i (parts i) X in
         let Vs : List SignedSet = premises trees t.logic r (s i) (map_parts s (parts i)) Y in
         let v : AllLifted Zs Vs = premises_lifted ts t keeps t.logic r i (parts i) X Y l (keeps.table.parts i l) w in
         let P : Parts Signed → Type 0 = λ p. Gains r Y (premises trees t.logic r (s i) p Y) × GrowAll trees t.logic (premises trees t.logic r (s i) p Y) (map_forest s ps) in
         subst P (keeps.parts i l) (
           gains_lifted r X Y w h Zs Vs v new.0,
-          all_grow ps Zs Vs v (premises_from r i (parts i) X Y l o w h) (premises_good r i (parts i) X l o (own_cut r i X l c.0) (own_components ts t keeps i l) g) c.1 new.1,
+          all_grow ps Zs Vs v (premises_from ts t keeps r i (parts i) X Y l o w h) (premises_good r i (parts i) X l o (own_cut r i X l c.0) (own_components ts t keeps i l) g) c.1 new.1,
         )
 
-    all_grow : (ps : Forest ℕ) (Xs : List (Set ℕ)) (Ys : List SignedSet) → AllLifted Xs Ys → AreFrom Xs Ys → AreGood Xs → ClosedAll (items t) (cuts t) t.logic Xs ps → GrowAll (items t) t.logic Xs ps →
+    all_grow : (ps : Forest ℕ) (Xs : List (Set ℕ)) (Ys : List SignedSet) → AllLifted Xs Ys → AllFrom Xs Ys → AreGood Xs → ClosedAll (items t) (cuts t) t.logic Xs ps → GrowAll (items t) t.logic Xs ps →
         GrowAll trees t.logic Ys (map_forest s ps)
     all_grow none [] [] w h g c new = tt
     all_grow none [] (Y ∷ Ys) w h g c new = tt
@@ -347,7 +206,7 @@ module _ (ts : List Formula) (t : Table) (keeps : Keeps ts t) where
       | inr other ↦ absurd (false≢true other)
     ]
 
-    goal_from : IsFrom (among (item ∷ [])) (only (F, goal))
+    goal_from : From (among (item ∷ [])) (only (F, goal))
     goal_from x e = (item, or_left (nat_eq item item) false (eq-eqb item item refl), is ∙ (same_signed-Decides (F, goal) x).0 e)
 
     goal_good : IsGood (among (item ∷ []))

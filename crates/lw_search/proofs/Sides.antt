@@ -5,20 +5,9 @@ use Rattle.std.proofs.lemmas.Bool.{or_cases, false≢true}
 use Rattle.lw_formula.specs.declared.logic.Logic.{Logic}
 use Rattle.lw_formula.specs.declared.parts.Parts.{Parts}
 use Rattle.lw_formula.specs.declared.parts.Parts.TheVariants.{Nothing, One, Two, Nu, Pi}
-use Rattle.lw_closure.specs.Mapping.{OfBoth, OfParts, map_both, map_parts}
+use Rattle.lw_closure.specs.Mapping.{OfBoth, OfParts}
 use Rattle.lw_sat.specs.Moves.{listed, IsSide}
 use Rattle.lw_sat.specs.Sets.{among}
-
-OfBoth-map : {I J : Type 0} (f : I → J) (P : J → Type 0) (p : I × Option I) → OfBoth P (map_both f p) → OfBoth (λ i. P (f i)) p
-OfBoth-map f P (a, None) h = h
-OfBoth-map f P (a, Some b) h = h
-
-pub OfParts-map : {I J : Type 0} (f : I → J) (P : J → Type 0) (p : Parts I) → OfParts P (map_parts f p) → OfParts (λ i. P (f i)) p
-OfParts-map f P Nothing h = tt
-OfParts-map f P (One a b) h = OfBoth-map f P (a, b) h
-OfParts-map f P (Two p q) h = (OfBoth-map f P p h.0, OfBoth-map f P q h.1)
-OfParts-map f P (Nu a) h = h
-OfParts-map f P (Pi a) h = h
 
 -- P holds of each of the list
 abbrev Each : (ℕ → Type 0) → List ℕ → Type 0

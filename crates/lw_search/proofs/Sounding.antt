@@ -14,11 +14,12 @@ use Rattle.lw_counter.specs.Fragment.{Fragment, world_at, items_of, with_world, 
 use Rattle.lw_counter.specs.Open.{HasWitness, IsOffered}
 use Rattle.lw_counter.specs.Paths.{IsEdge}
 use Rattle.lw_counter.proofs.Forms.{items_more}
+use Rattle.lw_counter.proofs.Paths.{child_within}
+use Rattle.lw_counter.proofs.Fragments.{length_with, new_items, new_parent, old_items, old_parent, world_cases}
 use Rattle.lw_sat.specs.Sets.{among}
 use Rattle.lw_sat.proofs.Coursing.{among_all}
 use Rattle.lw_search.specs.Ranked.{Past, IsServedBy}
 use Rattle.lw_search.specs.Sound.{last_world, IsOnWay, IsSound, IsWaiting}
-use Rattle.lw_search.proofs.Fragments.{child_there, length_with, new_items, new_parent, old_items, old_parent, world_cases}
 
 -- nothing has been found yet
 pub sound_start : (t : Table) (n : ℕ) (X : Set ℕ) → IsSound t n X [] (record { worlds = []; links = [] })
@@ -53,7 +54,7 @@ module _ (t : Table) (n : ℕ) (X : Set ℕ) (path : List Past) (f : Fragment) (
       inr (v, offered_on v offered below, subst (λ Y. Y c ≡ true) (sym (old_items f (last_world path) ls v below)) there)
     where
       offered_there : (v : ℕ) → IsOffered t.logic f w v → v < length f.worlds
-      offered_there v (inl (inl e)) = child_there f v w e
+      offered_there v (inl (inl e)) = child_within f v w e
       offered_there v (inl (inr e)) = (All-contains (λ l. (l.0 < length f.worlds) × (l.1 < length f.worlds)) f.links (w, v) h.formed.linked e.1).1
       offered_there v (inr e) = e.1
 
@@ -66,7 +67,7 @@ module _ (t : Table) (n : ℕ) (X : Set ℕ) (path : List Past) (f : Fragment) (
       (flows : (p : Past) (ps : List Past) → path ≡ p ∷ ps → IsWithin (kept (items t) t.logic p.label) (among ls)) where
     ordered_on : (w u : ℕ) → (world_at g w).parent ≡ Some u → u < w
     ordered_on w u e =
-        elim (world_cases f (last_world path) ls w (child_there g w u e)) [
+        elim (world_cases f (last_world path) ls w (child_within g w u e)) [
           | inl old ↦ h.formed.ordered w u (sym (old_parent f (last_world path) ls w old) ∙ e)
           | inr new ↦ subst (λ k. u < k) (sym new) (parent_there path h.way (sym (new_parent f (last_world path) ls) ∙ ap (λ k. (world_at g k).parent) (sym new) ∙ e))
         ] where
@@ -104,7 +105,7 @@ module _ (t : Table) (n : ℕ) (X : Set ℕ) (path : List Past) (f : Fragment) (
 
     flows_on : (w v : ℕ) → IsEdge t.logic g w v → IsWithin (kept (items t) t.logic (items_of g w)) (items_of g v)
     flows_on w v (inl e) =
-        elim (world_cases f (last_world path) ls v (child_there g v w e)) [
+        elim (world_cases f (last_world path) ls v (child_within g v w e)) [
           | inl old ↦ (let up = sym (old_parent f (last_world path) ls v old) ∙ e in
               let less : w < v = h.formed.ordered v w up in carries_old w v (omega arith) old (h.flows w v (inl up)))
           | inr new ↦ subst (λ k. IsWithin (kept (items t) t.logic (items_of g w)) (items_of g k)) (sym new)

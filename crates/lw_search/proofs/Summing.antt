@@ -19,7 +19,7 @@ tree_is m (suc n) = refl
 pub few_start : (f w x : ℕ) → f ≡ w + 1 → f ≤ w + 1 + 0 * x
 few_start f w x e = omega arith
 
-count_more : (test : ℕ → Bool) (k : ℕ) → count_below test (k + 1) ≡ cond (test k) 1 0 + count_below test k
+pub count_more : (test : ℕ → Bool) (k : ℕ) → count_below test (k + 1) ≡ cond (test k) 1 0 + count_below test k
 count_more test k = ap (count_below test) (add-one k)
 
 pub few_more : (t : Table) (f w k x : ℕ) → f ≤ w + 1 + count_below (is_asker t) k * x → f ≤ w + 1 + count_below (is_asker t) (k + 1) * x

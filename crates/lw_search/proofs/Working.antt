@@ -15,6 +15,7 @@ use Rattle.lw_closure.specs.Items.{items}
 use Rattle.lw_closure.specs.Unclosed.{IsUnclosedLabel}
 use Rattle.lw_counter.specs.Fragment.{Fragment, world_at, items_of, cut_to, with_world, with_link}
 use Rattle.lw_counter.specs.Open.{HasWitness}
+use Rattle.lw_counter.proofs.Fragments.{cut_link, cut_push, cut_self, cut_twice, length_with}
 use Rattle.lw_sat.specs.Path.{Spot, most_steps, root, room_below, spot_of, IsBoard, IsWide}
 use Rattle.lw_sat.specs.Saturated.{room, IsAt}
 use Rattle.lw_sat.specs.Sets.{among, top, weight, IsOfItems}
@@ -29,7 +30,6 @@ use Rattle.lw_search.specs.Sound.{last_world, IsOnWay, IsSound}
 use Rattle.lw_search.specs.Step.{askers, count_below, is_asker, seed}
 use Rattle.lw_search.specs.Turns.{IsAsked, IsFar, ServesItself, StepFits}
 use Rattle.lw_search.proofs.Summing.{few_child, few_more, few_start, room_descends, room_next, room_settled, tree_is, unit_is}
-use Rattle.lw_search.proofs.Fragments.{cut_link, cut_push, cut_self, cut_twice, length_with}
 use Rattle.lw_search.proofs.Nesting.{held_on, nested_left, nested_off, nested_on}
 use Rattle.lw_search.proofs.Stepping.{seed_first, seed_items}
 use Rattle.lw_search.proofs.Sounding.{link_witness, on_way, sound_done, sound_link, sound_next, sound_push}
@@ -194,10 +194,11 @@ module _ (t : Table) (aim : Aim) (s : Search) (h : IsServing t aim s) (c : ℕ) 
   abbrev to : Place
   to = above t from s.level c s.fragment
 
-  module _ (n : Search) (below : n.below.items ≡ s.below.items ++ s.level ∷ []) (frames : n.level.frames.items ≡ []) (parent : n.level.parent ≡ Some s.level.world) (fragment : n.fragment ≡ s.fragment)
-      (board : IsBoard n.level.board) (wide : IsWide t n.level.board) (spot : spot_of n.level.board ≡ root (seed t (label s.level) s.level.item c)) where
-    pub descended : IsUnderWork t aim n
-    descended = record {
+  pub descended : (n : Search) → n.below.items ≡ s.below.items ++ s.level ∷ [] → n.level.frames.items ≡ [] → n.level.parent ≡ Some s.level.world → n.fragment ≡ s.fragment → IsBoard n.level.board → IsWide t n.level.board →
+      spot_of n.level.board ≡ root (seed t (label s.level) s.level.item c) → room n.level.board ≤ most_room (item_count t) → StepFits t aim s n true
+  descended n below frames parent fragment board wide spot few = (under_work, less) where
+    under_work : IsUnderWork t aim n
+    under_work = record {
       guides = h.guides;
       place = to;
       nested = subst (λ ls. Nested t aim (start aim) ls to) (sym below) (nested_on t aim s.below.items s.level (start aim) from to h.nested (record { serves = h.serves; inner = c; asks = asks; next = refl }));
@@ -220,8 +221,8 @@ module _ (t : Table) (aim : Aim) (s : Search) (h : IsServing t aim s) (c : ℕ) 
       fragment = fragment;
     }
 
-    pub descended_room : room n.level.board ≤ most_room (item_count t) → work_room t aim.bound n ≤ serving_room t aim.bound s
-    descended_room few =
+    less : work_room t aim.bound n ≤ serving_room t aim.bound s
+    less =
         let k = aim.bound in
         let was = nested_left t aim s.below.items (start aim) from h.nested in
         let long : length n.below.items ≡ length s.below.items + 1 = ap length below ∙ length_push s.below.items s.level in
@@ -306,22 +307,21 @@ module _ (t : Table) (aim : Aim) (s : Search) (h : IsServing t aim s) (all : s.l
         (subst (λ w. w ≤ l.world + 1 + count_below (is_asker t) l.item * child_size (askers t) lower.left) (sym h.serves.world) waits.serves.few) child_few;
   }
 
-  pub risen : (n : Search) → n.below.items ≡ ls → n.level ≡ next_of → n.fragment ≡ f → IsServing t aim n
-  risen n e level fragment = record {
-    guides = h.guides;
-    place = lower;
-    nested = subst (λ ks. Nested t aim (start aim) ks lower) (sym e) was_nested.1;
-    serves = subst (λ g. Serves t aim lower n.level g) (sym fragment) (subst (λ k. Serves t aim lower k f) (sym level) risen_serves);
-  }
-
-  pub risen_room : (n : Search) → n.below.items ≡ ls → n.level ≡ next_of → serving_room t aim.bound n ≤ serving_room t aim.bound s
-  risen_room n e level =
-      let k = aim.bound in
-      let held : held_room (item_count t) k s.below.items ≡ held_room (item_count t) k ls + waiting_room (item_count t) (k - length ls) l = ap (held_room (item_count t) k) below ∙ held_on (item_count t) k ls l in
-      let new : serving_room t k n ≡ held_room (item_count t) k ls + waiting_room (item_count t) (k - length ls) l =
-      (λ i. held_room (item_count t) k (e i)
-      + (room_below (level i).board.bits (spot_of (level i).board) * unit (item_count t) (k - length (e i)) + (item_count t - (level i).item) * child_room (item_count t) (k - length (e i)))) in
-      omega (arith, held, new)
+  pub risen : (n : Search) → n.below.items ≡ ls → n.level ≡ next_of → n.fragment ≡ f → IsServing t aim n × (serving_room t aim.bound n ≤ serving_room t aim.bound s)
+  risen n e level fragment = (
+    record {
+      guides = h.guides;
+      place = lower;
+      nested = subst (λ ks. Nested t aim (start aim) ks lower) (sym e) was_nested.1;
+      serves = subst (λ g. Serves t aim lower n.level g) (sym fragment) (subst (λ k. Serves t aim lower k f) (sym level) risen_serves);
+    },
+    let k = aim.bound in
+        let held : held_room (item_count t) k s.below.items ≡ held_room (item_count t) k ls + waiting_room (item_count t) (k - length ls) l = ap (held_room (item_count t) k) below ∙ held_on (item_count t) k ls l in
+        let new : serving_room t k n ≡ held_room (item_count t) k ls + waiting_room (item_count t) (k - length ls) l =
+        (λ i. held_room (item_count t) k (e i)
+        + (room_below (level i).board.bits (spot_of (level i).board) * unit (item_count t) (k - length (e i)) + (item_count t - (level i).item) * child_room (item_count t) (k - length (e i)))) in
+        omega (arith, held, new),
+  )
 
 -- no level is left: the fragment is open
 module _ (t : Table) (aim : Aim) (s : Search) (h : IsServing t aim s) (all : s.level.item ≡ item_count t) (none : s.below.items ≡ []) where

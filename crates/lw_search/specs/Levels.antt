@@ -1,5 +1,5 @@
 -- The levels of a search: the labels on the path from the goal to the label under work, each a saturation of its own seed.
-use Rattle.std.specs.Prelude.{◌≡◌, ℕ, zero, suc, ◌+◌, ◌-◌, ◌*◌, ◌<◌, ◌≤◌, Bool, false, IsTrue, ⊤, List, [], ◌∷◌, length}
+use Rattle.std.specs.Prelude.{◌≡◌, ℕ, zero, suc, ◌+◌, ◌-◌, ◌*◌, ◌<◌, ◌≤◌, Bool, false, IsTrue, ⊤, None, List, [], ◌∷◌, length}
 use Rattle.lw_pool.specs.declared.id.SignedId.{SignedId}
 use Rattle.lw_model.specs.Bounds.{tree_size}
 use Rattle.lw_proof.specs.System.{Set}
@@ -101,6 +101,16 @@ pub record Waits (t : Table) (aim : Aim) (a : Place) (l : Level) (b : Place) : T
 abbrev pub Nested : Table → Aim → Place → List Level → Place → Type 0
 Nested t aim a [] c = a ≡ c
 Nested t aim a (l ∷ ls) c = (b : Place) × Waits t aim a l b × Nested t aim b ls c
+
+-- nothing is done: the one board has the seed X, no level waits and no world is found
+pub record IsBegun (t : Table) (X : Set ℕ) (s : Search) : Type 0 where
+  pub below : s.below.items ≡ []
+  pub frames : s.level.frames.items ≡ []
+  pub board : IsBoard s.level.board
+  pub wide : IsWide t s.level.board
+  pub spot : spot_of s.level.board ≡ root X
+  pub parent : s.level.parent ≡ None
+  pub fragment : s.fragment ≡ record { worlds = []; links = [] }
 
 -- the last level's label is under work, and its world isn't in the fragment yet
 pub record IsUnderWork (t : Table) (aim : Aim) (s : Search) : Type 0 where

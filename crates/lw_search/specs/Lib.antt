@@ -3,7 +3,7 @@ pub mod Ranked
 pub mod Explored
 pub mod Outcome
 pub mod Lacking
-pub mod Takes
+pub mod Used
 pub mod Sound
 pub mod Levels
 pub mod Turns

@@ -1,11 +1,13 @@
--- What a step takes along into the label of the world that it leads to.
-use Rattle.std.specs.Prelude.{ℕ, Bool, true, false, ◌&&◌, ◌||◌, not, zero, suc, ◌+◌, if◌then◌else◌, Option, Some, None}
+-- What a step keeps of a label for the world that it leads to.
+use Rattle.std.specs.Prelude.{ℕ, Bool, true, false, ◌&&◌, ◌||◌, not, zero, suc, ◌+◌, if◌then◌else◌, nat_eq}
+use Rattle.std.specs.Option.{is_some}
 use Rattle.lw_formula.specs.declared.logic.Logic.{Logic}
-use Rattle.lw_formula.specs.declared.logic.Logic.TheVariants.{K, KT, GL, Grz}
+use Rattle.lw_formula.specs.declared.logic.Logic.TheVariants.{K, KT, GL}
 use Rattle.lw_proof.specs.System.{Set}
 use Rattle.lw_proof.specs.Derivation.{added, is_pi, kept, plus}
 use Rattle.lw_closure.specs.Table.{Table, entry_at, item_count}
 use Rattle.lw_closure.specs.Items.{items}
+use Rattle.lw_closure.specs.Keeps.{has_guards}
 
 -- the logics in which the ν of a label go along themselves
 abbrev pub keeps_nu : Logic → Bool
@@ -20,18 +22,13 @@ keeps_inside KT = true
 keeps_inside GL = true
 keeps_inside _ = false
 
+-- what a step keeps of the item, where a label has it: what it keeps of the set of the item alone
+abbrev pub kept_of : Table → ℕ → Set ℕ
+kept_of t item = kept (items t) t.logic (nat_eq item)
+
 -- with what the label of a new world begins, where the step on the π `item` with the component c leads to it from the label X
 abbrev pub seed : Table → Set ℕ → ℕ → ℕ → Set ℕ
 seed t X item c = plus (items t) (added (items t) t.logic item c) (kept (items t) t.logic X)
-
--- the logic in which a step wants a guard
-abbrev pub has_guards : Logic → Bool
-has_guards Grz = true
-has_guards _ = false
-
-abbrev pub is_some : {A : Type 0} → Option A → Bool
-is_some None = false
-is_some (Some a) = true
 
 -- whether a label may ask for a step on the item: it is a π, in Grz one that has a guard
 abbrev pub is_asker : Table → ℕ → Bool

@@ -7,8 +7,10 @@ use Rattle.lw_proof.specs.Lean.{steps}
 use Rattle.lw_proof.specs.System.{Set}
 use Rattle.lw_proof.specs.Tree.{Tree}
 use Rattle.lw_closure.specs.Table.{Table, entry_at, item_count}
+use Rattle.lw_closure.specs.Unclosed.{IsUnclosedLabel}
 use Rattle.lw_counter.specs.Fragment.{Fragment, items_of}
 use Rattle.lw_counter.specs.Open.{HasWitness}
+use Rattle.lw_sat.specs.declared.board.Board.{Board}
 use Rattle.lw_sat.specs.Closing.{Closes}
 use Rattle.lw_sat.specs.Path.{root, room_below, spot_of, most_steps, IsBoard, IsClosedAt, IsWide}
 use Rattle.lw_sat.specs.Saturated.{room, IsAt}
@@ -17,7 +19,7 @@ use Rattle.lw_search.specs.declared.level.Search.{Search}
 use Rattle.lw_search.specs.declared.level.Turn.{Turn}
 use Rattle.lw_search.specs.declared.level.Turn.TheVariants as turn
 use Rattle.lw_search.specs.Explored.{IsExplored}
-use Rattle.lw_search.specs.Levels.{Aim, Place, IsServing, IsUnderWork, fallen_room, label, serving_room, work_room}
+use Rattle.lw_search.specs.Levels.{Aim, Guides, Place, Waits, IsFallen, IsServing, IsUnderWork, fallen_room, label, serving_room, work_room}
 use Rattle.lw_search.specs.Ranked.{IsServedBy}
 
 -- the label asks for a step on the π `item`, or for a link, with the component c: it has the π, and where worlds see themselves not the component
@@ -39,22 +41,37 @@ abbrev pub LinkFits : Table → Aim → Search → ℕ → Search → Bool → T
 LinkFits t aim old c new true = IsServing t aim new × HasWitness t.logic new.fragment (items_of new.fragment) new.level.world c × (new.level ≡ old.level) × (new.below ≡ old.below)
 LinkFits t aim old c new false = (new ≡ old) × IsFar t (label old.level) old.fragment c
 
--- after one π: a step led to a label under work, or the next π is to be served
+-- a step led to a label under work
+abbrev pub TakesStep : Table → Aim → Search → Search → Type 0
+TakesStep t aim old new = IsUnderWork t aim new × (work_room t aim.bound new ≤ serving_room t aim.bound old)
+
+-- after one π: a step was taken, or the next π is to be served
 abbrev pub StepFits : Table → Aim → Search → Search → Bool → Type 0
-StepFits t aim old new true = IsUnderWork t aim new × (work_room t aim.bound new ≤ serving_room t aim.bound old)
+StepFits t aim old new true = TakesStep t aim old new
 StepFits t aim old new false =
     IsServing t aim new × (new.level.item ≡ old.level.item + 1) × (serving_room t aim.bound new ≤ serving_room t aim.bound old) × (new.below ≡ old.below)
 
--- after all π of a label: a step led to a label under work, or all are served
+-- after all π of a label: a step was taken, or all are served
 abbrev pub ServeFits : Table → Aim → Search → Search → Bool → Type 0
-ServeFits t aim old new true = IsUnderWork t aim new × (work_room t aim.bound new ≤ serving_room t aim.bound old)
+ServeFits t aim old new true = TakesStep t aim old new
 ServeFits t aim old new false =
     IsServing t aim new × (new.level.item ≡ item_count t) × (serving_room t aim.bound new ≤ serving_room t aim.bound old) × (new.below ≡ old.below)
 
--- after all π of all labels: a step led to a label under work, or the fragment is open
+-- after all π of all labels: a step was taken, or the fragment is open
 abbrev pub RiseFits : Table → Aim → Search → Search → Bool → Type 0
-RiseFits t aim old new true = IsUnderWork t aim new × (work_room t aim.bound new ≤ serving_room t aim.bound old)
+RiseFits t aim old new true = TakesStep t aim old new
 RiseFits t aim old new false = IsExplored t aim.bound aim.seed new.fragment
+
+-- what work on the last label comes to: it is unclosed, or its seed is closed
+abbrev pub WorkFits : Table → Aim → Search → Search → Option (Tree SignedId) → Type 0
+WorkFits t aim old new None = IsUnderWork t aim new × IsUnclosedLabel t (label new.level) × (work_room t aim.bound new ≤ work_room t aim.bound old)
+WorkFits t aim old new (Some p) = IsFallen t aim new p × (fallen_room t aim.bound new ≤ work_room t aim.bound old)
+
+-- the proof p closes, by items that the board u has, the seed of the step for which the level at the place a waits, and which leads to the place b
+pub record ClosesStep (t : Table) (aim : Aim) (a : Place) (l : Level) (b : Place) (u : Board) (p : Tree SignedId) : Type 0 where
+  pub guides : Guides t aim.rank
+  pub waits : Waits t aim a l b
+  pub closed : IsClosedAt t (root b.seed) u p
 
 -- what comes of a level at the place a whose label is closed by a Step: the label is under work again, or its seed is closed
 abbrev pub ReopensOrCloses : Table → Aim → Place → Level → Level → Option (Tree SignedId) → Type 0

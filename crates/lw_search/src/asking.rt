@@ -1,6 +1,5 @@
 // Which π of a label ask for a step.
-ghost use Rattle.std.specs.Prelude.{◌≡◌, ℕ, ◌<◌, ◌↔◌, ◌||◌, false, not, IsTrue, MatchOption, length};
-ghost use Rattle.std.specs.List.{All};
+ghost use Rattle.std.specs.Prelude.{◌≡◌, ◌<◌, ◌↔◌, ◌||◌, false, not, IsTrue, MatchOption, length};
 ghost use Rattle.lw_proof.specs.Derivation.{has_cut, kept};
 ghost use Rattle.lw_proof.proofs.Larger.{IsWithin};
 ghost use Rattle.lw_closure.specs.Table.{item_count, IsTable};
@@ -9,7 +8,7 @@ ghost use Rattle.lw_counter.specs.Fragment.{items_of};
 ghost use Rattle.lw_sat.specs.Path.{IsBoard, IsWide};
 ghost use Rattle.lw_sat.specs.Sets.{among, top, IsOfItems};
 ghost use Rattle.lw_search.specs.Ranked.{IsServedBy};
-ghost use Rattle.lw_search.specs.Takes.{finds};
+ghost use Rattle.lw_search.specs.Step.{kept_of};
 ghost use Rattle.lw_search.specs.Turns.{IsAsked, IsFar, ServesItself};
 
 use crate::rule::StepRule;
@@ -42,11 +41,12 @@ fn has_if(items: &[usize], wanted: bool, item: usize) -> bool
     !wanted || items.contains(&item)
 }
 
-// Whether the items have what a step takes along for this one.
-fn has_taken<R: StepRule>(closure: &Closure, rule: &R, items: &[usize], item: usize) -> bool
+// Whether the items have what a step keeps of this one.
+fn has_kept_of<R: StepRule>(closure: &Closure, rule: &R, items: &[usize], item: usize) -> bool
     requires logic { closure.now.logic ≡ R.logic }
+    requires uncut { has_cut closure.now.logic ≡ false }
     requires item { item < item_count closure.now }
-    ensures { result ≡ finds closure.now (among items.now) item }
+    ensures { IsTrue result ↔ IsWithin (kept_of closure.now item) (among items.now) }
 {
     match closure.parts(item) {
         Parts::Nu(inner) => {
@@ -66,7 +66,7 @@ fn has_kept<R: StepRule>(closure: &Closure, rule: &R, label: &Board, items: &[us
     ensures { IsTrue result ↔ IsWithin (kept (of_items.items closure.now) closure.now.logic (top label.now.labels)) (among items.now) }
 {
     for item in 0..2 * closure.count() {
-        if label.has(item) && !has_taken(closure, rule, items, item) {
+        if label.has(item) && !has_kept_of(closure, rule, items, item) {
             return false;
         }
     }

@@ -1,9 +1,9 @@
 // The loop of all tableau searches.
-ghost use Rattle.std.specs.Prelude.{◌≡◌, ℕ, ◌<◌, IfOk, [], ◌∷◌, None};
+ghost use Rattle.std.specs.Prelude.{◌≡◌, ◌<◌, IfOk, [], ◌∷◌};
 ghost use Rattle.lw_closure.specs.Table.{item_count};
 ghost use Rattle.lw_closure.specs.Keeps.{Keeps};
-ghost use Rattle.lw_sat.specs.Path.{root, spot_of, IsBoard, IsWide};
 ghost use Rattle.lw_sat.specs.Sets.{among};
+ghost use Rattle.lw_search.specs.Levels.{IsBegun};
 ghost use Rattle.lw_search.specs.Outcome.{OutcomeFits};
 ghost use Rattle.lw_search.specs.Ranked.{IsRanked};
 
@@ -21,13 +21,7 @@ use std::alloc::{AllocError, Global};
 // A search whose first seed is the item alone.
 fn begin(alloc: Global, closure: &Closure, item: usize) -> Result<Search, AllocError>
     requires { item < item_count closure.now }
-    ensures below { IfOk result (λ search. search.below.items ≡ []) }
-    ensures frames { IfOk result (λ search. search.level.frames.items ≡ []) }
-    ensures board { IfOk result (λ search. IsBoard search.level.board) }
-    ensures wide { IfOk result (λ search. IsWide closure.now search.level.board) }
-    ensures spot { IfOk result (λ search. spot_of search.level.board ≡ root (among (item ∷ []))) }
-    ensures parent { IfOk result (λ search. search.level.parent ≡ None) }
-    ensures fragment { IfOk result (λ search. search.fragment ≡ record { worlds = []; links = [] }) }
+    ensures { IfOk result (IsBegun closure.now (among (item ∷ []))) }
 {
     let mut board = Board::new(alloc, 2 * closure.count())?;
     board.add_side((item, None));

@@ -1,16 +1,16 @@
 // From a closed seed down to the last label that has another branch.
 ghost use Rattle.std.specs.Prelude.{◌≡◌, ◌<◌, ◌≤◌, IfOk};
 ghost use Rattle.lw_proof.specs.Lean.{steps};
-ghost use Rattle.lw_sat.specs.Path.{root, IsBoard, IsClosedAt, IsWide};
-ghost use Rattle.lw_search.specs.Levels.{Aim, Guides, IsFallen, Place, Waits};
-ghost use Rattle.lw_search.specs.Turns.{FallFits, ReopensOrCloses};
+ghost use Rattle.lw_sat.specs.Path.{IsBoard, IsWide};
+ghost use Rattle.lw_search.specs.Levels.{Aim, IsFallen, Place};
+ghost use Rattle.lw_search.specs.Turns.{ClosesStep, FallFits, ReopensOrCloses};
 
 use crate::level::{Level, Search};
 use crate::rule::StepRule;
-use crate::used::{step_over, use_step};
+use crate::used::use_step;
 use lw_closure::Closure;
 use lw_proof::Proof;
-use lw_sat::{Board, unwind};
+use lw_sat::{Board, step_over, unwind};
 use std::alloc::{AllocError, Global};
 use std::mem;
 
@@ -21,21 +21,19 @@ fn close_label<R: StepRule>(
     closure: &Closure,
     rule: &R,
     level: &mut Level,
-    above: Board,
+    mut above: Board,
     proof: Proof,
 ) -> Result<Option<Proof>, AllocError>
     requires logic { closure.now.logic ≡ R.logic }
-    requires waits { (aim : Aim) × (a : Place) × (b : Place) × Guides closure.now aim.rank × Waits closure.now aim a level.old b × IsClosedAt closure.now (root b.seed) above proof }
+    requires closes { (aim : Aim) × (a : Place) × (b : Place) × ClosesStep closure.now aim a level.old b above proof }
     requires board { IsBoard above }
     requires wide { IsWide closure.now above }
-    ensures { (aim : Aim) (a b : Place) → Guides closure.now aim.rank → Waits closure.now aim a level.old b → IsClosedAt closure.now (root b.seed) above proof → steps proof ≤ b.left → IfOk result (ReopensOrCloses closure.now aim a level.old level.new) }
+    ensures { (aim : Aim) (a b : Place) → ClosesStep closure.now aim a level.old b above proof → steps proof ≤ b.left → IfOk result (ReopensOrCloses closure.now aim a level.old level.new) }
 {
-    let mut above = above;
     let item = level.item;
     use_step(closure, rule, &mut level.board, &mut above, item);
     let whole = step_over(alloc, closure, item, proof)?;
-    let found = unwind(alloc, closure, &mut level.frames, &mut level.board, whole)?;
-    Ok(found)
+    unwind(alloc, closure, &mut level.frames, &mut level.board, whole)
 }
 
 /// Takes off the levels whose seeds the proof closes. Gives None where a label is under work again, and a proof that

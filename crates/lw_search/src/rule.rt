@@ -1,9 +1,9 @@
-ghost use Rattle.std.specs.Prelude.{◌≡◌, ℕ, ◌<◌, Bool, List, ◌∷◌, option_to_list};
+ghost use Rattle.std.specs.Prelude.{◌≡◌, ℕ, ◌<◌, List, ◌∷◌, option_to_list};
 ghost use Rattle.lw_formula.specs.Formula.{Formula};
 ghost use Rattle.lw_formula.specs.declared.logic.Logic.{Logic};
 ghost use Rattle.lw_proof.specs.Derivation.{added, has_refl};
 ghost use Rattle.lw_closure.specs.Items.{items};
-ghost use Rattle.lw_closure.specs.Table.{Table, entry_at, item_count, IsTable};
+ghost use Rattle.lw_closure.specs.Table.{Table, item_count, IsTable};
 ghost use Rattle.lw_counter.specs.Paths as paths;
 ghost use Rattle.lw_search.specs.Ranked.{Ranking};
 ghost use Rattle.lw_search.specs.Step as step;

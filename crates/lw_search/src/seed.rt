@@ -4,10 +4,9 @@ ghost use Rattle.lw_proof.specs.Derivation.{has_cut};
 ghost use Rattle.lw_closure.specs.Table.{item_count, IsTable};
 ghost use Rattle.lw_sat.specs.Path.{root, spot_of, Becomes, IsBoard, IsWide};
 ghost use Rattle.lw_sat.specs.Saturated.{room};
-ghost use Rattle.lw_sat.specs.Sets.{top, IsOfItems};
+ghost use Rattle.lw_sat.specs.Sets.{either, top, IsOfItems};
 ghost use Rattle.lw_search.specs.Levels.{most_room};
-ghost use Rattle.lw_search.specs.Step.{seed};
-ghost use Rattle.lw_search.specs.Takes.{takes};
+ghost use Rattle.lw_search.specs.Step.{kept_of, seed};
 
 use crate::rule::StepRule;
 use lw_closure::Closure;
@@ -26,14 +25,15 @@ fn add_if(board: &mut Board, wanted: bool, item: usize)
     }
 }
 
-// Puts in what a step takes along for an item of the label below.
+// Puts in what a step keeps of an item of the label below.
 fn take_along<R: StepRule>(closure: &Closure, rule: &R, board: &mut Board, item: usize)
     requires logic { closure.now.logic ≡ R.logic }
+    requires uncut { has_cut closure.now.logic ≡ false }
     requires table { IsTable closure.now }
     requires board { IsBoard board.old }
     requires wide { IsWide closure.now board.old }
     requires item { item < item_count closure.now }
-    ensures { Becomes board.old board.new (record (spot_of board.old) { set = λ i. takes closure.now item i || top board.old.labels i }) }
+    ensures { Becomes board.old board.new (record (spot_of board.old) { set = either (kept_of closure.now item) (top board.old.labels) }) }
 {
     if let Parts::Nu(inner) = closure.parts(item) {
         add_if(board, rule.keeps_nu(), item);

@@ -1,8 +1,8 @@
 // The π of an unclosed label, served one after another.
-ghost use Rattle.std.specs.Prelude.{◌≡◌, ◌<◌, ◌≤◌, IfOk, OnOk};
+ghost use Rattle.std.specs.Prelude.{◌≡◌, ◌<◌, IfOk, OnOk};
 ghost use Rattle.lw_closure.specs.Table.{item_count};
-ghost use Rattle.lw_search.specs.Levels.{label, serving_room, work_room, Aim, IsServing, IsUnderWork};
-ghost use Rattle.lw_search.specs.Turns.{IsAsked, IsFar, LinkFits, RiseFits, ServeFits, StepFits};
+ghost use Rattle.lw_search.specs.Levels.{label, Aim, IsServing};
+ghost use Rattle.lw_search.specs.Turns.{IsAsked, IsFar, LinkFits, RiseFits, ServeFits, StepFits, TakesStep};
 
 use crate::asking::{asked, target};
 use crate::level::{Level, Search};
@@ -12,7 +12,7 @@ use lw_closure::Closure;
 use std::alloc::{AllocError, Global};
 use std::mem;
 
-// Serves the π that the last level's item is, with the component `inner`, by a link, where there is a world for one.
+// Serves the π that the last level's item is, with the component `inner`, by a link. False: there is no world for one.
 fn link<R: StepRule>(
     closure: &Closure,
     rule: &R,
@@ -44,8 +44,7 @@ fn descend<R: StepRule>(
     requires serving { (aim : Aim) × IsServing closure.now aim search.old }
     requires asked { IsAsked closure.now (label search.old.level) search.old.level.item inner }
     requires far { IsFar closure.now (label search.old.level) search.old.fragment inner }
-    ensures work { (aim : Aim) → IsServing closure.now aim search.old → OnOk result (IsUnderWork closure.now aim search.new) }
-    ensures room { (aim : Aim) → IsServing closure.now aim search.old → OnOk result (work_room closure.now aim.bound search.new ≤ serving_room closure.now aim.bound search.old) }
+    ensures { (aim : Aim) → IsServing closure.now aim search.old → OnOk result (TakesStep closure.now aim search.old search.new) }
 {
     let board = plant(
         alloc,

@@ -1,7 +1,7 @@
 // One turn of the search.
-ghost use Rattle.std.specs.Prelude.{◌≡◌, ◌<◌, ◌≤◌, IfOk};
+ghost use Rattle.std.specs.Prelude.{◌≡◌, ◌<◌, IfOk};
 ghost use Rattle.lw_search.specs.Levels.{Aim, IsUnderWork};
-ghost use Rattle.lw_search.specs.Turns.{TurnFits};
+ghost use Rattle.lw_search.specs.Turns.{TurnFits, WorkFits};
 
 use crate::fall::fall;
 use crate::level::{Search, Turn};
@@ -9,8 +9,26 @@ use crate::rule::StepRule;
 use crate::serve::rise;
 use crate::world::settle;
 use lw_closure::Closure;
+use lw_proof::Proof;
 use lw_sat::run;
 use std::alloc::{AllocError, Global};
+
+// Works on the last label. None: it is unclosed. Some: the proof closes its seed.
+fn work_off(
+    alloc: Global,
+    closure: &Closure,
+    search: &mut Search,
+) -> Result<Option<Proof>, AllocError>
+    requires { (aim : Aim) × IsUnderWork closure.now aim search.old }
+    ensures { (aim : Aim) → IsUnderWork closure.now aim search.old → IfOk result (WorkFits closure.now aim search.old search.new) }
+{
+    run(
+        alloc,
+        closure,
+        &mut search.level.frames,
+        &mut search.level.board,
+    )
+}
 
 /// Works on the last label until it is unclosed or its seed is closed, and goes on from there to the next label. After an
 /// error nothing is known of the search.
@@ -24,12 +42,7 @@ pub fn advance<R: StepRule>(
     requires work { (aim : Aim) × IsUnderWork closure.now aim search.old }
     ensures { (aim : Aim) → IsUnderWork closure.now aim search.old → IfOk result (TurnFits closure.now aim search.old search.new) }
 {
-    match run(
-        alloc,
-        closure,
-        &mut search.level.frames,
-        &mut search.level.board,
-    )? {
+    match work_off(alloc, closure, search)? {
         Some(proof) => match fall(alloc, closure, rule, search, proof)? {
             Some(whole) => Ok(Turn::Closed(whole)),
             None => Ok(Turn::Moved),

@@ -1,31 +1,28 @@
 // What Steps use.
-ghost use Rattle.std.specs.Prelude.{◌≡◌, ℕ, ◌<◌, Bool, not, false, nat_eq, nat_lt, ◌&&◌, ◌||◌, IfOk, IsTrue, [], ◌∷◌};
+ghost use Rattle.std.specs.Prelude.{◌≡◌, ℕ, ◌<◌, false, IsTrue};
 ghost use Rattle.lw_formula.specs.declared.parts.Parts.TheVariants.{Pi};
-ghost use Rattle.lw_proof.specs.Derivation.{added};
-ghost use Rattle.lw_proof.specs.Tree.{node, more, none};
-ghost use Rattle.lw_proof.specs.declared.rule.Rule.TheVariants.{Step};
-ghost use Rattle.lw_closure.specs.Table.{entry_at, item_at, item_count, IsTable};
+ghost use Rattle.lw_proof.specs.Derivation.{added, has_cut};
+ghost use Rattle.lw_closure.specs.Table.{entry_at, item_count, IsTable};
 ghost use Rattle.lw_closure.specs.Items.{items};
 ghost use Rattle.lw_sat.specs.Path.{spot_of, Becomes, IsBoard, IsWide};
 ghost use Rattle.lw_sat.specs.Sets.{top, without, IsOfItems};
-ghost use Rattle.lw_search.specs.Takes as taking;
-ghost use Rattle.lw_search.specs.Takes.{used_step};
+ghost use Rattle.lw_search.specs.Step.{kept_of};
+ghost use Rattle.lw_search.specs.Used.{meets, sent, used_step};
 
 use crate::rule::StepRule;
 use lw_closure::Closure;
 use lw_formula::Parts;
-use lw_proof::{Proof, Rule};
-use lw_sat::{Board, signed};
-use std::alloc::{AllocError, Global};
+use lw_sat::Board;
 
-// Whether the label above has something that a step took along for the item.
+// Whether the label above has something that a step keeps of the item.
 fn sends<R: StepRule>(closure: &Closure, rule: &R, above: &Board, item: usize) -> bool
     requires logic { closure.now.logic ≡ R.logic }
+    requires uncut { has_cut closure.now.logic ≡ false }
     requires table { IsTable closure.now }
     requires board { IsBoard above.now }
     requires wide { IsWide closure.now above.now }
     requires item { item < item_count closure.now }
-    ensures { result ≡ taking.sends closure.now (top above.now.labels) item }
+    ensures { result ≡ meets closure.now (kept_of closure.now item) (top above.now.labels) }
 {
     match closure.parts(item) {
         Parts::Nu(inner) => (rule.keeps_nu() && above.has(item))
@@ -51,7 +48,7 @@ fn leave_added<R: StepRule>(closure: &Closure, rule: &R, above: &mut Board, item
     }
 }
 
-// Keeps of the label what was sent, and the item.
+// Keeps of the label what a step on the item sends into the label above.
 fn keep_sent<R: StepRule>(
     closure: &Closure,
     rule: &R,
@@ -60,6 +57,7 @@ fn keep_sent<R: StepRule>(
     item: usize,
 )
     requires logic { closure.now.logic ≡ R.logic }
+    requires uncut { has_cut closure.now.logic ≡ false }
     requires table { IsTable closure.now }
     requires board { IsBoard board.old }
     requires wide { IsWide closure.now board.old }
@@ -67,7 +65,7 @@ fn keep_sent<R: StepRule>(
     requires there { IsTrue (top board.old.labels item) }
     requires above_board { IsBoard above.now }
     requires above_wide { IsWide closure.now above.now }
-    ensures { Becomes board.old board.new (record (spot_of board.old) { set = λ i. nat_eq item i || (top board.old.labels i && taking.sends closure.now (top above.now.labels) i) }) }
+    ensures { Becomes board.old board.new (record (spot_of board.old) { set = sent closure.now (top board.old.labels) item (top above.now.labels) }) }
 {
     for other in 0..2 * closure.count() {
         if other != item && !sends(closure, rule, above, other) {
@@ -76,7 +74,8 @@ fn keep_sent<R: StepRule>(
     }
 }
 
-/// Leaves of the label what a Step on the π uses, where the proof above it uses what is in the label above.
+/// Leaves of the label what a Step on the π uses, where the proof above it uses what is in the label above, and takes
+/// out of that what the step adds.
 pub fn use_step<R: StepRule>(
     closure: &Closure,
     rule: &R,
@@ -85,6 +84,7 @@ pub fn use_step<R: StepRule>(
     item: usize,
 )
     requires logic { closure.now.logic ≡ R.logic }
+    requires uncut { has_cut closure.now.logic ≡ false }
     requires table { IsTable closure.now }
     requires board { IsBoard board.old }
     requires wide { IsWide closure.now board.old }
@@ -98,19 +98,4 @@ pub fn use_step<R: StepRule>(
 {
     leave_added(closure, rule, above, item);
     keep_sent(closure, rule, board, above, item);
-}
-
-/// The proof that begins with the Step on the π and goes on with the proof.
-pub fn step_over(
-    alloc: Global,
-    closure: &Closure,
-    item: usize,
-    proof: Proof,
-) -> Result<Proof, AllocError>
-    requires { item < item_count closure.now }
-    ensures { IfOk result (λ p. p ≡ node Step (item_at closure.now item) (more proof none)) }
-{
-    let mut subs = Vec::new(alloc);
-    subs.push(proof)?;
-    Ok(Proof::new(Rule::Step, signed(closure, item), subs))
 }

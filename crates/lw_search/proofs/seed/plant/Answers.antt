@@ -5,7 +5,8 @@ use Rattle.lw_closure.specs.Table.{item_count}
 use Rattle.lw_sat.specs.Moves.{listed}
 use Rattle.lw_sat.specs.Path.{spot_of, IsBoard, IsWide}
 use Rattle.lw_sat.specs.Sets.{top, AreBelow}
-use Rattle.lw_search.proofs.Planting.{below_wider, kept_more, kept_skip, planted, planted_room}
+use Rattle.lw_sat.proofs.Finding.{below_more}
+use Rattle.lw_search.proofs.Planting.{kept_more, kept_skip, planted, planted_room}
 use Rattle.lw_search.proofs.Stepping.{added_below}
 use Rattle.lw_search.specs.Step.{seed}
 use Rattle.lw_search.proofs.seed.plant.Goals as goal
@@ -35,7 +36,7 @@ pub add_side-requires-clause-inside : goal.add_side-requires-clause-inside
 add_side-requires-clause-inside g c =
     let t = c.args.closure.now in
     let same : added (items t) t.logic c.args.item c.args.inner ≡ listed (c.args.inner, c.beside.result) = ap (λ L. added (items t) L c.args.item c.args.inner) c.requires.logic ∙ c.beside.ensures c.args.inner in
-    below_wider (item_count t) c.loop-kept.seed.bits (listed (c.args.inner, c.beside.result)) c.loop-kept.invariant.wide
+    below_more (item_count t) c.loop-kept.seed.bits c.loop-kept.invariant.wide (listed (c.args.inner, c.beside.result))
     (subst (AreBelow (item_count t)) same (added_below t c.requires.table c.args.item c.args.inner c.requires.item c.requires.inner))
 
 pub returns-clause-spot : goal.returns-clause-spot

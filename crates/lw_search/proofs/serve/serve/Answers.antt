@@ -1,6 +1,5 @@
-use Rattle.std.proofs.Common.{◌<◌, Bool, subst, refl, ◌∙◌, arith}
+use Rattle.std.proofs.Common.{◌<◌, refl, ◌∙◌, arith}
 use Rattle.lw_closure.specs.Table.{item_count}
-use Rattle.lw_search.specs.Turns.{StepFits}
 use Rattle.lw_search.proofs.serve.serve.Goals as goal
 
 pub serve_item-requires-clause-serving : goal.serve_item-requires-clause-serving
@@ -9,20 +8,20 @@ serve_item-requires-clause-serving g c = (c.requires.serving.0, (c.loop-search.i
 pub returns-then-branch : goal.returns-then-branch
 returns-then-branch g c aim h =
     let so_far = c.loop-search.invariant aim h in
-    let fits = subst (λ (b : Bool). StepFits c.args.closure.now aim c.loop-search.search c.serve_item.new.search b) c.if-branch.true (c.in_ok-serve_item.ensures aim so_far.0) in
+    let fits = rw c.if-branch.true at (c.in_ok-serve_item.ensures aim so_far.0) in
     (fits.0, omega (arith, fits.1, so_far.1))
 
 pub loop-search-smaller : goal.loop-search-smaller
 loop-search-smaller g c =
-    let so_far = c.loop-search.invariant c.requires.serving.0 c.requires.serving.1 in
-    let fits = subst (λ (b : Bool). StepFits c.args.closure.now c.requires.serving.0 c.loop-search.search c.serve_item.new.search b) c.if-branch.false (c.in_ok-serve_item.ensures c.requires.serving.0 so_far.0) in
+    let (aim, h) = c.requires.serving in
+    let fits = rw c.if-branch.false at (c.in_ok-serve_item.ensures aim (c.loop-search.invariant aim h).0) in
     let below : c.loop-search.search.level.item < item_count c.args.closure.now = omega arith in
     omega (arith, fits.1)
 
 pub loop-search-preserved : goal.loop-search-preserved
 loop-search-preserved g c aim h =
     let so_far = c.loop-search.invariant aim h in
-    let fits = subst (λ (b : Bool). StepFits c.args.closure.now aim c.loop-search.search c.serve_item.new.search b) c.if-branch.false (c.in_ok-serve_item.ensures aim so_far.0) in
+    let fits = rw c.if-branch.false at (c.in_ok-serve_item.ensures aim so_far.0) in
     (fits.0, omega (arith, fits.2, so_far.1), fits.3 ∙ so_far.2)
 
 pub returns : goal.returns

@@ -1,10 +1,12 @@
 -- The π among the components of a closure's formulas are of the goal's formulas, so that in Grz each has a guard.
-use Rattle.std.proofs.Common.{◌≡◌, ℕ, ◌/◌, ◌<◌, true, false, List, Some, inl, inr, refl, sym, ap, subst, ◌∙◌, arith}
+use Rattle.std.proofs.Common.{◌≡◌, ℕ, ◌<◌, true, false, List, Some, inl, inr, refl, sym, ap, subst, ◌∙◌}
 use Rattle.std.proofs.lemmas.Bool.{false≢true}
 use Rattle.lw_formula.specs.declared.logic.Logic.{Logic}
 use Rattle.lw_formula.specs.declared.parts.Parts.{Parts}
-use Rattle.lw_formula.specs.declared.parts.Parts.TheVariants.{Nothing, One, Two, Nu, Pi}
+use Rattle.lw_formula.specs.declared.parts.Parts.TheVariants.{Nu}
+use Rattle.lw_formula.specs.declared.sign.Sign.{Sign}
 use Rattle.lw_formula.specs.declared.sign.Sign.TheVariants.{T, F}
+use Rattle.lw_formula.specs.Signs.{opposite}
 use Rattle.lw_formula.specs.Formula.{Formula, neg, conj, impl, nec, poss, is_modal, IsOperand, IsSubformula}
 use Rattle.lw_formula.specs.Signed.{Signed}
 use Rattle.lw_formula.specs.Components.{parts_of, guard_of}
@@ -15,29 +17,34 @@ use Rattle.lw_proof.specs.Derivation.{is_nu, is_pi}
 use Rattle.lw_closure.specs.Mapping.{OfParts}
 use Rattle.lw_closure.specs.Table.{Table, entry_at, item_count, signed_of}
 use Rattle.lw_closure.specs.Keeps.{Keeps, IsOfClosure}
-use Rattle.lw_closure.proofs.Lifting.{guard_in-cases}
-use Rattle.lw_closure.proofs.Mapped.{OfParts-imp}
+use Rattle.lw_closure.proofs.Items.{guarded, of_closure}
+use Rattle.lw_closure.proofs.Mapped.{OfParts-imp, OfParts-map}
 use Rattle.lw_closure.proofs.Operands.{parts_operands}
-use Rattle.lw_search.proofs.Counting.{guarded}
-use Rattle.lw_search.proofs.Sides.{OfParts-map}
+
+-- the sign under which a modal formula is a ν
+abbrev pub nu_sign : Formula → Sign
+nu_sign (nec a) = T
+nu_sign _ = F
+
+-- a ν, and a π, is a modal formula under one sign
+pub nu_modal : (s : Signed) → is_nu (parts_of s) ≡ true → (is_modal s.1 ≡ true) × (s.0 ≡ nu_sign s.1)
+nu_modal (T, nec a) e = (refl, refl)
+nu_modal (F, poss a) e = (refl, refl)
+nu_modal _ e = absurd (false≢true e)
+
+pub pi_modal : (s : Signed) → is_pi (parts_of s) ≡ true → (is_modal s.1 ≡ true) × (s.0 ≡ opposite (nu_sign s.1))
+pi_modal (F, nec a) e = (refl, refl)
+pi_modal (T, poss a) e = (refl, refl)
+pi_modal _ e = absurd (false≢true e)
 
 -- where x is a π, its formula is one of the goal's
 abbrev pub IsOwnPi : Formula → Signed → Type 0
 IsOwnPi goal x = is_pi (parts_of x) ≡ true → IsSubformula x.1 goal
 
--- a π is modal
-pi_modal : (x : Signed) → is_pi (parts_of x) ≡ true → is_modal x.1 ≡ true
-pi_modal (F, nec a) e = refl
-pi_modal (T, poss a) e = refl
-pi_modal _ e = absurd (false≢true e)
-
 -- a ν is no π
 pub nu_no_pi : {I : Type 0} (p : Parts I) → is_nu p ≡ true → is_pi p ≡ true → ⊥
 nu_no_pi (Nu c) n p = false≢true p
-nu_no_pi Nothing n p = false≢true n
-nu_no_pi (One a b) n p = false≢true n
-nu_no_pi (Two a b) n p = false≢true n
-nu_no_pi (Pi c) n p = false≢true n
+nu_no_pi _ n p = false≢true n
 
 -- a guard is a ν
 pub guard_nu : (x g : Signed) → guard_of x ≡ Some g → is_nu (parts_of g) ≡ true
@@ -83,15 +90,15 @@ module _ (goal : Formula) where
 
   modal_operand : (L : Logic) (f c : Formula) → IsOfClosure L goal f → IsOperand c f → is_modal c ≡ true → IsSubformula c goal
   modal_operand L f c (inl own) o m = IsSubformula-trans c f goal (operand_within c f o) own
-  modal_operand L f c (inr (x, g, e, h)) o m = of_guard x g (guarded L goal x g e) (guard_in-cases L goal x g e) f c h o m
+  modal_operand L f c (inr (x, g, e, h)) o m = let own = guarded L goal x g e in of_guard x g own.0 own.1 f c h o m
 
   own_parts : (L : Logic) (x : Signed) → IsOfClosure L goal x.1 → OfParts (IsOwnPi goal) (parts_of x)
-  own_parts L x of = OfParts-imp (λ c. IsOperand c.1 x.1) (IsOwnPi goal) (λ c o pi. modal_operand L x.1 c.1 of o (pi_modal c pi)) (parts_of x) (parts_operands x)
+  own_parts L x of = OfParts-imp (λ c. IsOperand c.1 x.1) (IsOwnPi goal) (λ c o pi. modal_operand L x.1 c.1 of o (pi_modal c pi).0) (parts_of x) (parts_operands x)
 
 -- so are those among the components of an item
 pub own_components : (ts : List Formula) (t : Table) → Keeps ts t → (i : ℕ) → i < item_count t → OfParts (λ j. IsOwnPi (tree_at ts t.goal) (signed_of ts t j)) (entry_at t i).parts
 own_components ts t keeps i l =
     let goal : Formula = tree_at ts t.goal in
     let own : OfParts (IsOwnPi goal) (parts_of (signed_of ts t i)) =
-    own_parts goal t.logic (signed_of ts t i) ((keeps.exact (signed_of ts t i).1).0 (i / 2, omega arith, refl)) in
+    own_parts goal t.logic (signed_of ts t i) (of_closure ts t keeps i l) in
     OfParts-map (signed_of ts t) (IsOwnPi goal) (entry_at t i).parts (subst (OfParts (IsOwnPi goal)) (sym (keeps.parts i l)) own)

@@ -1,12 +1,11 @@
 -- Fragments with a world or a link more, and what a cut leaves of them.
-use Rattle.std.proofs.Common.{◌≡◌, ℕ, ◌+◌, ◌<◌, ◌≤◌, Bool, true, false, Option, Some, None, List, [], ◌∷◌, ◌++◌, length, take, ltb, cond, ◌⊎◌, inl, inr, refl, sym, ap, ◌∙◌, arith}
-use Rattle.std.specs.List.{All, filter}
+use Rattle.std.proofs.Common.{◌≡◌, ℕ, nat_eq, ◌+◌, ◌<◌, ◌≤◌, Bool, true, false, Option, List, [], ◌∷◌, ◌++◌, length, take, ltb, cond, ◌⊎◌, inl, inr, refl, sym, ap, ◌∙◌, arith}
+use Rattle.std.specs.List.{All, filter, list_any}
 use Rattle.std.proofs.lemmas.Bool.{and_from, and_left, and_parts, lt-ltb, le-ltb, ltb-true, cases_Bool, cases_lt}
-use Rattle.std.proofs.lemmas.List.{append-nil, take-append-le, take-take, take_all, get_or_past, length_push}
+use Rattle.std.proofs.lemmas.List.{append-nil, take-append-le, take-take, take_all, length_push}
 use Rattle.std.proofs.lemmas.List.Elements.{All-head, All-tail, filter-append}
 use Rattle.lw_counter.specs.Fragment.{World, Fragment, IsFormed, world_at, items_of, is_below, cut_to, with_world, with_link}
 use Rattle.lw_counter.proofs.Forms.{new_world, old_world, kept_world}
-use Rattle.lw_sat.specs.Sets.{among}
 
 -- two fragments of the same worlds and links are one
 same_fragment : (ws vs : List World) (ls ks : List (ℕ × ℕ)) → ws ≡ vs → ls ≡ ks → (let a : Fragment = record { worlds = ws; links = ls } in a) ≡ record { worlds = vs; links = ks }
@@ -78,10 +77,10 @@ length_with f parent label = length_push f.worlds (record { label = label; paren
 
 -- labels as sets
 pub old_items : (f : Fragment) (parent : Option ℕ) (label : List ℕ) (w : ℕ) → w < length f.worlds → items_of (with_world f parent label) w ≡ items_of f w
-old_items f parent label w l = ap (λ (x : World). among x.label) (old_world f parent label w l)
+old_items f parent label w l = ap (λ (x : World). λ (i : ℕ). list_any (λ j. nat_eq j i) x.label) (old_world f parent label w l)
 
-pub new_items : (f : Fragment) (parent : Option ℕ) (label : List ℕ) → items_of (with_world f parent label) (length f.worlds) ≡ among label
-new_items f parent label = ap (λ (x : World). among x.label) (new_world f parent label)
+pub new_items : (f : Fragment) (parent : Option ℕ) (label : List ℕ) → items_of (with_world f parent label) (length f.worlds) ≡ (λ i. list_any (λ j. nat_eq j i) label)
+new_items f parent label = ap (λ (x : World). λ (i : ℕ). list_any (λ j. nat_eq j i) x.label) (new_world f parent label)
 
 pub old_parent : (f : Fragment) (parent : Option ℕ) (label : List ℕ) (w : ℕ) → w < length f.worlds → (world_at (with_world f parent label) w).parent ≡ (world_at f w).parent
 old_parent f parent label w l = ap (λ (x : World). x.parent) (old_world f parent label w l)
@@ -90,16 +89,7 @@ pub new_parent : (f : Fragment) (parent : Option ℕ) (label : List ℕ) → (wo
 new_parent f parent label = ap (λ (x : World). x.parent) (new_world f parent label)
 
 pub kept_items : (n : ℕ) (f : Fragment) (w : ℕ) → w < n → items_of (cut_to n f) w ≡ items_of f w
-kept_items n f w l = ap (λ (x : World). among x.label) (kept_world n f w l)
-
--- what is no world has no parent
-pub past_parent : (f : Fragment) (w : ℕ) → length f.worlds ≤ w → (world_at f w).parent ≡ None
-past_parent f w l = ap (λ (x : World). x.parent) (get_or_past f.worlds w (record { label = []; parent = None }) l)
-
-pub child_there : (f : Fragment) (v w : ℕ) → (world_at f v).parent ≡ Some w → v < length f.worlds
-child_there f v w e = elim (cases_lt v (length f.worlds)) [ inl l ↦ l | inr past ↦ absurd (none (sym (past_parent f v past) ∙ e)) ] where
-  none : None ≡ Some w → ⊥
-  none h = cc
+kept_items n f w l = ap (λ (x : World). λ (i : ℕ). list_any (λ j. nat_eq j i) x.label) (kept_world n f w l)
 
 -- a world of the new fragment is old, or the new one
 pub world_cases : (f : Fragment) (parent : Option ℕ) (label : List ℕ) (w : ℕ) → w < length (with_world f parent label).worlds → (w < length f.worlds) ⊎ (w ≡ length f.worlds)
