@@ -10,7 +10,7 @@ use Rattle.lw_cert.specs.declared.fault.CertFault.TheVariants as fault
 use Rattle.lw_cert.specs.declared.stage.Stage.{Stage}
 use Rattle.lw_cert.specs.declared.stage.Stage.TheVariants as stage
 use Rattle.lw_cert.specs.declared.certificate.Certificate.{Certificate}
-use Rattle.lw_cert.specs.Lines.{Line, heading, logic_is, formula_is, proof_follows, step_is, model_follows, worlds_are, refuted_is, world_is, ending, nothing, Piece, Whole, Cut, Stop, say, pieces, AreAllowed}
+use Rattle.lw_cert.specs.Lines.{Line, nothing, Piece, Whole, Cut, Stop, say, pieces, AreAllowed}
 use Rattle.lw_cert.specs.Faults.{IsFine, IsFault, is_in_model, IsFaultOf}
 use Rattle.lw_cert.specs.Certificates.{IsTextOf}
 use Rattle.lw_cert.specs.Machine.{State, Ended, step, IsOnTrack, is_modelling, is_ended}
@@ -73,30 +73,12 @@ refused text at p rest ts s r fault.Memory refuses = tt
 -- no line of a certificate is cut
 no-cut : (l : Line) (bytes : List ℕ) → say l ≡ Cut bytes → ⊥
 no-cut nothing bytes e = cc
-no-cut heading bytes e = cc
-no-cut (logic_is L) bytes e = cc
-no-cut (formula_is a) bytes e = cc
-no-cut proof_follows bytes e = cc
-no-cut (step_is d r s) bytes e = cc
-no-cut model_follows bytes e = cc
-no-cut (worlds_are n) bytes e = cc
-no-cut (refuted_is n w) bytes e = cc
-no-cut (world_is n w row) bytes e = cc
-no-cut ending bytes e = cc
+no-cut _ bytes e = cc
 
 no-stop : (l : Line) (s : State) → is_ended s ≡ false → say l ≡ Stop → IsOnTrack (step l s) → ⊥
 no-stop nothing Ended unfinished e on = false≢true (sym unfinished)
 no-stop nothing _ unfinished e on = on
-no-stop heading s unfinished e on = cc
-no-stop (logic_is L) s unfinished e on = cc
-no-stop (formula_is a) s unfinished e on = cc
-no-stop proof_follows s unfinished e on = cc
-no-stop (step_is d r t) s unfinished e on = cc
-no-stop model_follows s unfinished e on = cc
-no-stop (worlds_are n) s unfinished e on = cc
-no-stop (refuted_is n w) s unfinished e on = cc
-no-stop (world_is n w row) s unfinished e on = cc
-no-stop ending s unfinished e on = cc
+no-stop _ s unfinished e on = cc
 
 pub blocks-cut : (rest : List ℕ) (s : State) → (rest ≡ [] → ⊥) → Blocks (last_piece rest) s
 blocks-cut [] s full l said allowed on = full refl

@@ -1,16 +1,14 @@
 -- The last lines of a proof and of a model, and the rows of its worlds.
-use Rattle.std.proofs.Common.{MatchOption, Option, None, Some, take, ◌≡◌, ◌≢◌, ℕ, zero, suc, ◌+◌, ◌-◌, ◌<◌, ◌≤◌, ◌^◌, nat_eq, Bool, true, false, List, [], ◌∷◌, ◌++◌, ◌↔◌, inl, inr, ⊎_elim, length, map, reverse, codes, Contains, refl, sym, ◌∙◌, ap, subst, arith, add-one}
-use Rattle.std.proofs.lemmas.Bool.{false≢true}
-use Rattle.std.proofs.lemmas.Bool.Decides.{nat_tests}
+use Rattle.std.proofs.Common.{MatchOption, Option, None, Some, take, ◌≡◌, ◌≢◌, ℕ, zero, suc, ◌+◌, ◌-◌, ◌<◌, ◌≤◌, ◌^◌, List, [], ◌∷◌, ◌++◌, ◌↔◌, inl, inr, ⊎_elim, ◌⊎◌, length, map, reverse, codes, Contains, refl, sym, ◌∙◌, ap, subst, arith, add-one}
 use Rattle.std.proofs.lemmas.List.{append_assoc, append-nil, length_push}
 use Rattle.std.proofs.lemmas.Fmt.{decimal_injective}
 use Rattle.std.specs.Fmt.{decimal}
 use Rattle.std.specs.declared.alloc.Global.{Global}
 use Rattle.std.specs.declared.vec.Vec.{Vec}
-use Rattle.lw_formula.specs.declared.logic.Logic.{Logic}
-use Rattle.lw_formula.specs.Formula.{Formula, falsum}
-use Rattle.lw_formula.specs.FiniteModel.{FiniteModel, Sees, HasFact}
+use Rattle.lw_formula.specs.Formula.{Formula}
+use Rattle.lw_formula.specs.FiniteModel.{FiniteModel}
 use Rattle.lw_formula.specs.Signed.{Signed}
+use Rattle.lw_formula.proofs.Members.{Contains-nil}
 use Rattle.lw_pool.specs.declared.id.SignedId.{SignedId}
 use Rattle.lw_pool.specs.Region.{tree_at, signed_at}
 use Rattle.lw_proof.specs.Tree.{Tree, map_tree}
@@ -21,20 +19,18 @@ use Rattle.lw_cert.specs.declared.stage.Stage.{Stage}
 use Rattle.lw_cert.specs.declared.stage.Stage.TheVariants as stage
 use Rattle.lw_cert.specs.declared.certificate.Body.TheVariants as body
 use Rattle.lw_cert.specs.declared.certificate.Certificate.{Certificate}
-use Rattle.lw_cert.specs.Lines.{Line, logic_is, formula_is, proof_follows, model_follows, worlds_are, refuted_is, world_is, ending, nothing, Row, Whole, say, IsAllowed}
+use Rattle.lw_cert.specs.Lines.{Line, proof_follows, model_follows, worlds_are, refuted_is, world_is, ending, nothing, Row, Whole, say, IsAllowed}
 use Rattle.lw_cert.specs.Sheet.{Sheet, Content, Steps, rows_from, steps, content_lines, lines, IsRegular}
 use Rattle.lw_cert.specs.Sheet as sheet
 use Rattle.lw_cert.specs.Certificates.{row_at, AreRowsOf, IsContentOf}
 use Rattle.lw_cert.specs.Machine.{Start, Proving, Listing, Over, step, run, IsOnTrack}
 use Rattle.lw_cert.specs.Rows.{AddsRow, ReadsRow, IsNoRow}
-use Rattle.lw_cert.specs.Views.{opening, shown, ruled, steps_in, grown, table, Told, Blocks, Leads, IsNext, Concludes}
+use Rattle.lw_cert.specs.Views.{opening, ruled, steps_in, grown, table, Told, Blocks, Leads, IsNext, Concludes}
 use Rattle.lw_cert.proofs.Runs.{closing, run-append}
 use Rattle.lw_cert.proofs.Reaching.{takes, bytes_of, AreAllowed-append, whole, step-refuted, step-world}
 use Rattle.lw_cert.proofs.Arriving.{told-more, steps_in-append}
-use Rattle.lw_cert.proofs.Growing.{grown-map, grown-steps, live-grown, AreLiveTrees}
-
-no-member : {X : Type 0} (x : X) → Contains [] x → ⊥
-no-member x h = let low = h.1 in omega (arith, low)
+use Rattle.lw_cert.proofs.Parts.{parts-same, proof-told}
+use Rattle.lw_cert.proofs.Growing.{grown-map, live-grown, AreLiveTrees}
 
 rows_from-append : (n i : ℕ) (rows : List Row) (ls ms : List Line) → rows_from n i rows ls ++ ms ≡ rows_from n i rows (ls ++ ms)
 rows_from-append n i [] ls ms = refl
@@ -44,58 +40,32 @@ rows_from-push : (n i k : ℕ) (rows : List Row) (row : Row) → i + length rows
 rows_from-push n i k [] row e = let same : i ≡ k = omega arith in ap (λ j. world_is n j row ∷ []) same
 rows_from-push n i k (r ∷ rows) row e = ap (λ ks. world_is n i r ∷ ks) (rows_from-push n (suc i) k rows row (omega arith))
 
-row_at-same : (rows : List Row) (row : Row) (i : ℕ) → length rows ≡ i → row_at (rows ++ row ∷ []) i ≡ row
-row_at-same [] row zero e = refl
-row_at-same [] row (suc i) e = absurd (omega arith)
-row_at-same (r ∷ rows) row zero e = absurd (omega arith)
-row_at-same (r ∷ rows) row (suc i) e = row_at-same rows row i (omega arith)
+-- what the rows tell of one kind, the worlds seen or the variables, when they are one row more
+row-push : {X : Type 0} (part : Row → List X) → part (record { sees = []; names = [] }) ≡ [] → (rows : List Row) (row : Row) (i u : ℕ) (x : X) → length rows ≡ i
+    → Contains (part (row_at (rows ++ row ∷ []) u)) x ↔ (Contains (part (row_at rows u)) x ⊎ ((i ≡ u) × Contains (part row) x))
+row-push part none [] row zero zero x count = (λ h. inr (refl, h), λ h. ⊎_elim (λ there. absurd (Contains-nil x (subst (λ xs. Contains xs x) none there))) (λ e. e.1) h)
+row-push part none [] row zero (suc u) x count = (λ h. inl h, λ h. ⊎_elim (λ there. there) (λ e. absurd (omega (arith, e.0))) h)
+row-push part none [] row (suc i) u x count = absurd (omega arith)
+row-push part none (r ∷ rows) row zero u x count = absurd (omega arith)
+row-push part none (r ∷ rows) row (suc i) zero x count = (λ h. inl h, λ h. ⊎_elim (λ there. there) (λ e. absurd (omega (arith, e.0))) h)
+row-push part none (r ∷ rows) row (suc i) (suc u) x count =
+    let more = row-push part none rows row i u x (omega arith) in (
+      λ h. ⊎_elim (λ there. inl there) (λ e. inr (ap suc e.0, e.1)) (more.0 h),
+      λ h. more.1 (⊎_elim (λ there. inl there) (λ e. inr (omega (arith, e.0), e.1)) h),
+    )
 
-row_at-other : (rows : List Row) (row : Row) (i u : ℕ) → length rows ≡ i → (i ≡ u → ⊥) → row_at (rows ++ row ∷ []) u ≡ row_at rows u
-row_at-other [] row zero zero e differs = absurd (differs refl)
-row_at-other [] row (suc i) u e differs = absurd (omega arith)
-row_at-other [] row zero (suc u) e differs = refl
-row_at-other (r ∷ rows) row i zero e differs = refl
-row_at-other (r ∷ rows) row zero (suc u) e differs = absurd (omega arith)
-row_at-other (r ∷ rows) row (suc i) (suc u) e differs = row_at-other rows row i u (omega arith) (λ s. differs (ap suc s))
-
-row_at-past : (rows : List Row) (i : ℕ) → length rows ≡ i → row_at rows i ≡ record { sees = []; names = [] }
-row_at-past [] i e = refl
-row_at-past (r ∷ rows) zero e = absurd (omega arith)
-row_at-past (r ∷ rows) (suc i) e = row_at-past rows i (omega arith)
+-- what the model has more, the rows have more
+both-more : {A B C N P : Type 0} → A ↔ B → N ↔ (A ⊎ C) → P ↔ (B ⊎ C) → N ↔ P
+both-more same new push = (
+  λ h. push.1 (⊎_elim (λ a. inl (same.0 a)) (λ c. inr c) (new.0 h)),
+  λ h. new.1 (⊎_elim (λ b. inl (same.1 b)) (λ c. inr c) (push.0 h)),
+)
 
 -- what one row more adds
 adds-row : (i : ℕ) (rows : List Row) (row : Row) (old new : FiniteModel) → length rows ≡ i → AreRowsOf old rows → AddsRow i row old new → AreRowsOf new (rows ++ row ∷ [])
 adds-row i rows row old new count are adds = record {
-  relation = λ u v.
-      let Goal : Bool → Type 0 = λ b. nat_eq i u ≡ b → Sees new u v ↔ Contains (row_at (rows ++ row ∷ []) u).sees v in
-      elim (nat_eq i u) as Goal [
-        | true ↦ λ is. let same : i ≡ u = grind (arith, nat_tests) in
-            let here : row_at (rows ++ row ∷ []) u ≡ row = ap (row_at (rows ++ row ∷ [])) (sym same) ∙ row_at-same rows row i count in
-            let gone : row_at rows u ≡ record { sees = []; names = [] } = ap (row_at rows) (sym same) ∙ row_at-past rows i count in (
-              λ h. subst (λ r. Contains r.sees v) (sym here) (⊎_elim (λ there. absurd (no-member v (subst (λ r. Contains r.sees v) gone ((are.relation u v).0 there)))) (λ e. e.1) ((adds.relation u v).0 h)),
-              λ h. (adds.relation u v).1 (inr (same, subst (λ r. Contains r.sees v) here h)),
-            )
-        | false ↦ λ is. let differs : i ≢ u = grind (arith, nat_tests) in
-            let there : row_at (rows ++ row ∷ []) u ≡ row_at rows u = row_at-other rows row i u count differs in (
-              λ h. subst (λ r. Contains r.sees v) (sym there) (⊎_elim (λ o. (are.relation u v).0 o) (λ e. absurd (differs e.0)) ((adds.relation u v).0 h)),
-              λ h. (adds.relation u v).1 (inl ((are.relation u v).1 (subst (λ r. Contains r.sees v) there h))),
-            )
-      ] refl;
-  facts = λ u p.
-      let Goal : Bool → Type 0 = λ b. nat_eq i u ≡ b → HasFact new u p ↔ Contains (row_at (rows ++ row ∷ []) u).names p in
-      elim (nat_eq i u) as Goal [
-        | true ↦ λ is. let same : i ≡ u = grind (arith, nat_tests) in
-            let here : row_at (rows ++ row ∷ []) u ≡ row = ap (row_at (rows ++ row ∷ [])) (sym same) ∙ row_at-same rows row i count in
-            let gone : row_at rows u ≡ record { sees = []; names = [] } = ap (row_at rows) (sym same) ∙ row_at-past rows i count in (
-              λ h. subst (λ r. Contains r.names p) (sym here) (⊎_elim (λ there. absurd (no-member p (subst (λ r. Contains r.names p) gone ((are.facts u p).0 there)))) (λ e. e.1) ((adds.facts u p).0 h)),
-              λ h. (adds.facts u p).1 (inr (same, subst (λ r. Contains r.names p) here h)),
-            )
-        | false ↦ λ is. let differs : i ≢ u = grind (arith, nat_tests) in
-            let there : row_at (rows ++ row ∷ []) u ≡ row_at rows u = row_at-other rows row i u count differs in (
-              λ h. subst (λ r. Contains r.names p) (sym there) (⊎_elim (λ o. (are.facts u p).0 o) (λ e. absurd (differs e.0)) ((adds.facts u p).0 h)),
-              λ h. (adds.facts u p).1 (inl ((are.facts u p).1 (subst (λ r. Contains r.names p) there h))),
-            )
-      ] refl;
+  relation = λ u v. both-more (are.relation u v) (adds.relation u v) (row-push (λ r. r.sees) refl rows row i u v count);
+  facts = λ u p. both-more (are.facts u p) (adds.facts u p) (row-push (λ r. r.names) refl rows row i u p count);
 }
 
 -- a model without rows yet
@@ -117,7 +87,7 @@ leads-refuted ts bytes word h n w m begins is low made =
             (
               [],
               refl,
-              record { relation = λ u v. (λ k. absurd (no-member (u, v) k), λ k. absurd (no-member v k)); facts = λ u p. (λ k. absurd (no-member (u, p) k), λ k. absurd (no-member p k)) },
+              record { relation = λ u v. (λ k. absurd (Contains-nil (u, v) k), λ k. absurd (Contains-nil v k)); facts = λ u p. (λ k. absurd (Contains-nil (u, p) k), λ k. absurd (Contains-nil p k)) },
               ap (λ ks. ks ++ l ∷ []) e.1,
             ),
           )),
@@ -182,27 +152,6 @@ leads-listed ts bytes h m r i high is =
           )),
     )
 
--- parts of a certificate's lines
-abbrev logic_in : List Line → Logic
-logic_in (l ∷ logic_is L ∷ ls) = L
-logic_in _ = Logic.K
-
-abbrev formula_in : List Line → Formula
-formula_in (l ∷ m ∷ formula_is a ∷ ls) = a
-formula_in _ = falsum
-
-abbrev content_in : List Line → List Line
-content_in (l ∷ m ∷ n ∷ ls) = ls
-content_in _ = []
-
-abbrev is_proof : List Line → Bool
-is_proof (proof_follows ∷ ls) = true
-is_proof _ = false
-
-abbrev other_lines : List Line → List Line
-other_lines [] = []
-other_lines (l ∷ ls) = ls
-
 -- at the end of its steps a proof's lines are those of a certificate, whose proof the steps make
 record IsProvedBy (ts : List Formula) (h : Head) (ss : List Step) (ls : List Line) : Type 0 where
   pub paper : Sheet
@@ -214,30 +163,27 @@ record IsProvedBy (ts : List Formula) (h : Head) (ss : List Step) (ls : List Lin
   pub content : paper.content ≡ Steps proof
   pub made : map (map_tree (signed_at ts)) (grown (map ruled ss) []) ≡ proof ∷ []
 
-of-content : (ts : List Formula) (h : Head) (ss : List Step) (ls tail : List Line) (c : Sheet) (b : Content) → c.content ≡ b → IsRegular b → content_lines b ≡ proof_follows ∷ (tail ++ closing) → IsRegular c.content → ls ++ closing ≡ lines c → h.logic ≡ c.logic → tree_at ts h.formula ≡ c.formula
-    → steps_in tail ≡ map (shown ts) ss → IsProvedBy ts h ss ls
-of-content ts h ss ls tail c (Steps t) is full same regular lines_are logic formula shows = record {
-  paper = c;
-  regular = regular;
-  lines_are = lines_are;
-  logic = logic;
-  formula = formula;
-  proof = t;
-  content = is;
-  made =
-      sym (grown-map ts ss)
-      ∙ ap (λ qs. grown qs []) (sym shows ∙ sym (append-nil (steps_in tail)) ∙ sym (steps_in-append tail closing) ∙ ap steps_in (sym (ap other_lines same)))
-      ∙ grown-steps 1 t closing full;
-}
-of-content ts h ss ls tail c (sheet.Table w rows) is full same regular lines_are logic formula shows = absurd (false≢true (ap is_proof same))
-
 proved-by : (ts : List Formula) (h : Head) (depths : Vec ℕ Global) (steps : Vec Step Global) (ls : List Line) → reverse depths.items ≡ [] → Told ts (stage.Proving h depths steps) ls → IsProvedBy ts h steps.items ls
 proved-by ts h depths steps ls none told =
     let over : run (ls ++ closing) Start ≡ Over = run-append ls closing Start ∙ ap (run closing) (told.ran ∙ ap Proving none) in
     let c = whole (ls ++ closing) over in
     let tail = told.tells.2.0 in
     let same : opening ts h (proof_follows ∷ (tail ++ closing)) ≡ lines c.0 = sym (ap (λ ks. ks ++ closing) told.tells.2.1) ∙ c.2 in
-    of-content ts h steps.items ls tail c.0 c.0.content refl c.1 (sym (ap content_in same)) c.1 c.2 (ap logic_in same) (ap formula_in same) told.tells.2.2
+    let parts = parts-same h.logic c.0.logic (tree_at ts h.formula) c.0.formula (proof_follows ∷ (tail ++ closing)) (content_lines c.0.content) same in
+    let proof = proof-told c.0.content (tail ++ closing) c.1 (sym parts.2) in
+    record {
+      paper = c.0;
+      regular = c.1;
+      lines_are = c.2;
+      logic = parts.0;
+      formula = parts.1;
+      proof = proof.0;
+      content = proof.1;
+      made =
+          sym (grown-map ts steps.items)
+          ∙ ap (λ qs. grown qs []) (sym told.tells.2.2 ∙ sym (append-nil (steps_in tail)) ∙ sym (steps_in-append tail closing))
+          ∙ proof.2;
+    }
 
 -- there is a proof, whatever stands in the pool
 pub some-proof : (ts : List Formula) (h : Head) (depths : Vec ℕ Global) (steps : Vec Step Global) (ls : List Line) → reverse depths.items ≡ [] → Told ts (stage.Proving h depths steps) ls → grown (map ruled steps.items) [] ≡ [] → ⊥

@@ -67,11 +67,11 @@ takes nothing Ended on = refl
 takes _ _ on = absurd on
 
 -- a rule, by the first two bytes of its word
-abbrev first_byte : List ℕ → ℕ
+abbrev pub first_byte : List ℕ → ℕ
 first_byte [] = 0
 first_byte (b ∷ bytes) = b
 
-abbrev second_byte : List ℕ → ℕ
+abbrev pub second_byte : List ℕ → ℕ
 second_byte [] = 0
 second_byte (b ∷ bytes) = first_byte bytes
 
@@ -88,13 +88,7 @@ abbrev pub rule_back : List ℕ → Rule
 rule_back bytes = rule_by (first_byte bytes) (second_byte bytes)
 
 pub rule-is : (r : Rule) (rest : List ℕ) → rule_back (rule_word r ++ rest) ≡ r
-rule-is Rule.Close rest = refl
-rule-is Rule.Absurd rest = refl
-rule-is Rule.One rest = refl
-rule-is Rule.Two rest = refl
-rule-is Rule.Refl rest = refl
-rule-is Rule.Step rest = refl
-rule-is Rule.Cut rest = refl
+rule-is r rest = grind arith
 
 abbrev pub bytes_of : Piece → List ℕ
 bytes_of (Whole bytes) = bytes
@@ -104,7 +98,7 @@ bytes_of Stop = []
 pub rule-told : (r t : Rule) (xs ys : List ℕ) → rule_word r ++ xs ≡ rule_word t ++ ys → r ≡ t
 rule-told r t xs ys same = sym (rule-is r xs) ∙ ap rule_back same ∙ rule-is t ys
 
-proof-no-model : say proof_follows ≡ say model_follows → ⊥
+pub proof-no-model : say proof_follows ≡ say model_follows → ⊥
 proof-no-model e = false≢true (sym (ap (λ p. nat_eq (first_byte (bytes_of p)) 112) e))
 
 -- the bytes of a line and the state tell the next state
@@ -136,11 +130,11 @@ alike Ended l m is js al am same = ap (λ k. step k Ended) (is ∙ sym js)
 alike Over l m is js al am same = absurd is
 alike Wrong l m is js al am same = absurd is
 
-abbrev first_piece : List Piece → Piece
+abbrev pub first_piece : List Piece → Piece
 first_piece [] = Stop
 first_piece (p ∷ ps) = p
 
-abbrev other_pieces : List Piece → List Piece
+abbrev pub other_pieces : List Piece → List Piece
 other_pieces [] = []
 other_pieces (p ∷ ps) = ps
 

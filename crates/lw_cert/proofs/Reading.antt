@@ -1,51 +1,36 @@
 -- Reading the worlds that a world sees, and the variables that are true there.
-use Rattle.std.proofs.Common.{◌≡◌, ◌≢◌, ℕ, suc, ◌+◌, ◌<◌, ◌≤◌, ◌^◌, ◌%◌, ◌&&◌, nat_eq, MatchBool, Bool, true, false, IsTrue, List, [], ◌∷◌, ◌++◌, inl, inr, ⊎_elim, length, codes, Contains, refl, sym, ◌∙◌, ap, subst, arith}
+use Rattle.std.proofs.Common.{◌≡◌, ◌≢◌, ℕ, suc, ◌+◌, ◌<◌, ◌≤◌, ◌^◌, ◌%◌, not, nat_eq, MatchBool, Bool, true, false, IsTrue, List, [], ◌∷◌, ◌++◌, inl, inr, ⊎_elim, ◌⊎◌, ◌↔◌, length, codes, Contains, refl, sym, ◌∙◌, ap, subst, arith}
 use Rattle.std.proofs.lemmas.Bool.{false≢true}
 use Rattle.std.proofs.lemmas.Bool.Decides.{nat_tests}
 use Rattle.std.proofs.lemmas.List.{append_assoc, append-nil, append_cancel_left}
 use Rattle.std.proofs.lemmas.List.Elements.{Contains-append_left, Contains-push, Contains-push_cases}
 use Rattle.std.proofs.lemmas.Fmt.{decimal_injective, decimal_by_steps}
 use Rattle.std.specs.Fmt.{decimal}
-use Rattle.std.specs.List.{list_all}
 use Rattle.std.specs.Ordering.{nat_cmp}
 use Rattle.std.specs.Cmp.Lexicographic.{slice_cmp}
 use Rattle.std.specs.declared.cmp.Ordering.TheVariants.{Less}
 use Rattle.lw_formula.specs.FiniteModel.{FiniteModel, Sees, HasFact}
-use Rattle.lw_formula.specs.Name.{is_name, is_word_byte}
+use Rattle.lw_formula.specs.Name.{is_name}
+use Rattle.lw_formula.proofs.Members.{Contains-nil}
 use Rattle.lw_model.specs.Edits.{with_pair, with_fact}
 use Rattle.lw_model.proofs.Additions.{Sees-with_pair, facts-with_pair, worlds-with_pair, HasFact-with_fact, pairs-with_fact, worlds-with_fact}
 use Rattle.lw_cert.specs.Lines.{Row, Climb, Rise, numbers, words, world_text}
 use Rattle.lw_cert.specs.Rows.{IsSpaceless, Ends, IsWord, AddsPairs, AddsFacts, IsSeen, IsNamed, ReadsSeen, ReadsNames, ReadsRow, IsNoRow, HasPassed, HasNamed}
 use Rattle.lw_cert.proofs.Splitting.{cut-same}
+use Rattle.lw_cert.proofs.Lacking.{lacks, lacks-decimal, lacks-name, and-first, and-second}
 
-spaceless-append : (v w : List ℕ) → IsSpaceless v → IsSpaceless w → IsSpaceless (v ++ w)
-spaceless-append [] w nv nw = nw
-spaceless-append (a ∷ v) w nv nw = (nv.0, spaceless-append v w nv.1 nw)
+spaceless : (bytes : List ℕ) → lacks 32 bytes ≡ true → IsSpaceless bytes
+spaceless [] h = tt
+spaceless (b ∷ bytes) h =
+    ((λ e. false≢true (sym (ap (λ k. not (nat_eq k 32)) e) ∙ and-first (not (nat_eq b 32)) (lacks 32 bytes) h)), spaceless bytes (and-second (not (nat_eq b 32)) (lacks 32 bytes) h))
 
 -- a number's digits are no spaces
-pub spaceless-decimal : (n : ℕ) → n < 2 ^ 64 → IsSpaceless (decimal n)
-spaceless-decimal n low = decimal_by_steps (λ k ds. IsSpaceless ds)
-    (λ k h. ((λ e. absurd (omega arith)), tt))
-    (λ k ds h is. spaceless-append ds ((48 + k % 10) ∷ []) is ((λ e. absurd (omega arith)), tt))
-    n low
-
-and-first : (a b : Bool) → (a && b) ≡ true → a ≡ true
-and-first true b h = refl
-and-first false b h = absurd (false≢true h)
-
-and-second : (a b : Bool) → (a && b) ≡ true → b ≡ true
-and-second true b h = h
-and-second false b h = absurd (false≢true h)
-
-spaceless-word : (p : List ℕ) → list_all is_word_byte p ≡ true → IsSpaceless p
-spaceless-word [] all = tt
-spaceless-word (b ∷ p) all =
-    ((λ e. false≢true (sym (ap is_word_byte e) ∙ and-first (is_word_byte b) (list_all is_word_byte p) all)), spaceless-word p (and-second (is_word_byte b) (list_all is_word_byte p) all))
+pub spaceless-decimal : (n : ℕ) → IsSpaceless (decimal n)
+spaceless-decimal n = spaceless (decimal n) (lacks-decimal 32 n (omega arith))
 
 -- nor are a name's bytes
 pub spaceless-name : (p : List ℕ) → is_name p ≡ true → IsSpaceless p
-unfolding is_name
-spaceless-name p is = spaceless-word p (and-second _ _ (and-first _ _ (and-first _ _ is)))
+spaceless-name p is = spaceless p (lacks-name 32 p (omega arith) is)
 
 pub ends-numbers : (vs after : List ℕ) → Ends (numbers vs (codes " true" ++ after))
 ends-numbers [] after = refl
@@ -60,7 +45,7 @@ tail-same a b xs ys e = cc
 
 -- the word `true` has no space
 pub true-spaceless : IsSpaceless (codes "true")
-true-spaceless = ((λ e. absurd (omega (arith, e))), ((λ e. absurd (omega (arith, e))), ((λ e. absurd (omega (arith, e))), ((λ e. absurd (omega (arith, e))), tt))))
+true-spaceless = spaceless (codes "true") refl
 
 -- a line's numbers begin with the word that was read, or are over
 one-seen : (n least : ℕ) (rest word next vs other : List ℕ) (v : ℕ) → n < 2 ^ 64 → v < 2 ^ 64 → IsWord rest word next → word ≡ decimal v → word ≢ codes "true" → IsSeen n least rest vs other
@@ -71,7 +56,7 @@ one-seen n least rest word next [] other v small low is digits differs seen =
 one-seen n least rest word next (u ∷ us) other v small low is digits differs seen =
     let within : u < 2 ^ 64 = let below = seen.climbs.1 in omega (arith, below, small) in
     let same = tail-same 32 32 (word ++ next) (decimal u ++ numbers us (codes " true" ++ other)) (sym is.said ∙ seen.said) in
-    let cut = cut-same word (decimal u) next (numbers us (codes " true" ++ other)) is.spaceless (spaceless-decimal u within) is.ends (ends-numbers us other) same in
+    let cut = cut-same word (decimal u) next (numbers us (codes " true" ++ other)) is.spaceless (spaceless-decimal u) is.ends (ends-numbers us other) same in
     let number : v ≡ u = decimal_injective v u low within (sym digits ∙ cut.0) in (
       us,
       subst (λ k. least ≤ k) (sym number) seen.climbs.0,
@@ -105,7 +90,7 @@ after-true n least rest word next [] other small is told seen =
 after-true n least rest word next (u ∷ us) other small is told seen =
     let within : u < 2 ^ 64 = let below = seen.climbs.1 in omega (arith, below, small) in
     let same = tail-same 32 32 (word ++ next) (decimal u ++ numbers us (codes " true" ++ other)) (sym is.said ∙ seen.said) in
-    let cut = cut-same word (decimal u) next (numbers us (codes " true" ++ other)) is.spaceless (spaceless-decimal u within) is.ends (ends-numbers us other) same in
+    let cut = cut-same word (decimal u) next (numbers us (codes " true" ++ other)) is.spaceless (spaceless-decimal u) is.ends (ends-numbers us other) same in
     absurd (number-no-true u within (sym cut.0 ∙ told))
 
 seen-begins : (n least : ℕ) (rest vs other : List ℕ) → IsSeen n least rest vs other → (tail : List ℕ) × (rest ≡ 32 ∷ tail)
@@ -120,7 +105,7 @@ number-word n least rest word next [] other small is differs seen =
 number-word n least rest word next (u ∷ us) other small is differs seen =
     let within : u < 2 ^ 64 = let below = seen.climbs.1 in omega (arith, below, small) in
     let same = tail-same 32 32 (word ++ next) (decimal u ++ numbers us (codes " true" ++ other)) (sym is.said ∙ seen.said) in
-    (u, within, (cut-same word (decimal u) next (numbers us (codes " true" ++ other)) is.spaceless (spaceless-decimal u within) is.ends (ends-numbers us other) same).0)
+    (u, within, (cut-same word (decimal u) next (numbers us (codes " true" ++ other)) is.spaceless (spaceless-decimal u) is.ends (ends-numbers us other) same).0)
 
 numbers-push : (vs rest : List ℕ) (v : ℕ) → numbers (vs ++ v ∷ []) rest ≡ numbers vs (32 ∷ (decimal v ++ rest))
 numbers-push [] rest v = refl
@@ -131,47 +116,43 @@ words-push [] rest p = ap (λ bytes. 32 ∷ (bytes ++ rest)) (append-nil p)
 words-push (q ∷ qs) rest p =
     ap (λ bytes. 32 ∷ bytes) (append_assoc q (words (qs ++ p ∷ [])) rest ∙ ap (λ bytes. q ++ bytes) (words-push qs rest p) ∙ sym (append_assoc q (words qs) (32 ∷ (p ++ rest))))
 
+-- one element more at w
+one-more : {X : Type 0} (w : ℕ) (v : X) (seen : List X) (Old Now New : ℕ → X → Type 0) → ((u : ℕ) (x : X) → Now u x ↔ (Old u x ⊎ ((w ≡ u) × Contains seen x))) → ((u : ℕ) (x : X) → New u x ↔ (Now u x ⊎ ((w ≡ u) × (v ≡ x))))
+    → (u : ℕ) (x : X) → New u x ↔ (Old u x ⊎ ((w ≡ u) × Contains (seen ++ v ∷ []) x))
+one-more w v seen Old Now New now new u x = (
+  λ h. ⊎_elim
+      (λ there. ⊎_elim (λ old. inl old) (λ e. inr (e.0, Contains-append_left seen (v ∷ []) x e.1)) ((now u x).0 there))
+      (λ e. inr (e.0, subst (Contains (seen ++ v ∷ [])) e.1 (Contains-push seen v)))
+      ((new u x).0 h),
+  λ h. (new u x).1 (⊎_elim
+      (λ there. inl ((now u x).1 (inl there)))
+      (λ e. ⊎_elim (λ k. inl ((now u x).1 (inr (e.0, k)))) (λ k. inr (e.0, k)) (Contains-push_cases seen v x e.1))
+      h),
+)
+
+none-more : {X Old : Type 0} (w u : ℕ) (x : X) → Old ↔ (Old ⊎ ((w ≡ u) × Contains [] x))
+none-more w u x = (λ h. inl h, λ h. ⊎_elim (λ there. there) (λ e. absurd (Contains-nil x e.1)) h)
+
 adds-pair : (w v : ℕ) (seen : List ℕ) (old now new : FiniteModel) → AddsPairs w seen old now → new ≡ with_pair now w v → AddsPairs w (seen ++ v ∷ []) old new
-adds-pair w v seen old now new adds is = record {
-  worlds = ap (λ (m : FiniteModel). m.worlds) is ∙ worlds-with_pair now w v ∙ adds.worlds;
-  relation = λ u x. (
-    λ h. ⊎_elim
-        (λ there. ⊎_elim (λ old_one. inl old_one) (λ e. inr (e.0, Contains-append_left seen (v ∷ []) x e.1)) ((adds.relation u x).0 there))
-        (λ e. inr (e.0, subst (Contains (seen ++ v ∷ [])) e.1 (Contains-push seen v)))
-        ((Sees-with_pair now w v u x).0 (subst (λ (m : FiniteModel). Sees m u x) is h)),
-    λ h. subst (λ (m : FiniteModel). Sees m u x) (sym is) ((Sees-with_pair now w v u x).1 (⊎_elim
-        (λ there. inl ((adds.relation u x).1 (inl there)))
-        (λ e. ⊎_elim (λ k. inl ((adds.relation u x).1 (inr (e.0, k)))) (λ k. inr (e.0, k)) (Contains-push_cases seen v x e.1))
-        h)),
-  );
-  facts = ap (λ (m : FiniteModel). m.facts) is ∙ facts-with_pair now w v ∙ adds.facts;
-}
+adds-pair w v seen old now new adds is = subst (AddsPairs w (seen ++ v ∷ []) old) (sym is) (record {
+  worlds = worlds-with_pair now w v ∙ adds.worlds;
+  relation = one-more w v seen (Sees old) (Sees now) (Sees (with_pair now w v)) adds.relation (Sees-with_pair now w v);
+  facts = facts-with_pair now w v ∙ adds.facts;
+})
 
 adds-fact : (w : ℕ) (p : List ℕ) (names : List (List ℕ)) (old now new : FiniteModel) → AddsFacts w names old now → new ≡ with_fact now w p → AddsFacts w (names ++ p ∷ []) old new
-adds-fact w p names old now new adds is = record {
-  worlds = ap (λ (m : FiniteModel). m.worlds) is ∙ worlds-with_fact now w p ∙ adds.worlds;
-  pairs = ap (λ (m : FiniteModel). m.pairs) is ∙ pairs-with_fact now w p ∙ adds.pairs;
-  facts = λ u q. (
-    λ h. ⊎_elim
-        (λ there. ⊎_elim (λ old_one. inl old_one) (λ e. inr (e.0, Contains-append_left names (p ∷ []) q e.1)) ((adds.facts u q).0 there))
-        (λ e. inr (e.0, subst (Contains (names ++ p ∷ [])) e.1 (Contains-push names p)))
-        ((HasFact-with_fact now w p u q).0 (subst (λ (m : FiniteModel). HasFact m u q) is h)),
-    λ h. subst (λ (m : FiniteModel). HasFact m u q) (sym is) ((HasFact-with_fact now w p u q).1 (⊎_elim
-        (λ there. inl ((adds.facts u q).1 (inl there)))
-        (λ e. ⊎_elim (λ k. inl ((adds.facts u q).1 (inr (e.0, k)))) (λ k. inr (e.0, k)) (Contains-push_cases names p q e.1))
-        h)),
-  );
-}
-
-none-new : {X : Type 0} (x : X) → Contains [] x → ⊥
-none-new x h = let low = h.1 in omega (arith, low)
+adds-fact w p names old now new adds is = subst (AddsFacts w (names ++ p ∷ []) old) (sym is) (record {
+  worlds = worlds-with_fact now w p ∙ adds.worlds;
+  pairs = pairs-with_fact now w p ∙ adds.pairs;
+  facts = one-more w p names (HasFact old) (HasFact now) (HasFact (with_fact now w p)) adds.facts (HasFact-with_fact now w p);
+})
 
 pub passed-none : (w : ℕ) (bytes : List ℕ) (old : FiniteModel) → HasPassed w bytes bytes 0 old old
 passed-none w bytes old = record {
   seen = [];
   said = refl;
   climbs = λ vs h. h;
-  adds = record { worlds = refl; relation = λ u v. (λ h. inl h, λ h. ⊎_elim (λ there. there) (λ e. absurd (none-new v e.1)) h); facts = refl };
+  adds = record { worlds = refl; relation = λ u v. none-more w u v; facts = refl };
   on = λ vs other h. (vs, h);
 }
 
@@ -221,10 +202,7 @@ seen-true w least bytes rest word next old now small passed is told = record {
 
 -- names
 one-name : (last rest word next : List ℕ) (ps : List (List ℕ)) → IsWord rest word next → IsNamed last rest ps → (qs : List (List ℕ)) × IsTrue (is_name word) × (slice_cmp nat_cmp last word ≡ Less) × IsNamed word next qs
-one-name last rest word next [] is named = absurd (list-apart (sym is.said ∙ named.said))
-  where
-    list-apart : 32 ∷ (word ++ next) ≡ [] → ⊥
-    list-apart e = cc
+one-name last rest word next [] is named = let apart : 32 ∷ (word ++ next) ≡ [] = sym is.said ∙ named.said in absurd (cc)
 one-name last rest word next (p ∷ ps) is named =
     let same = tail-same 32 32 (word ++ next) (p ++ words ps) (sym is.said ∙ named.said) in
     let cut = cut-same word p next (words ps) is.spaceless (spaceless-name p named.rises.0) is.ends (ends-words ps) same in (
@@ -239,7 +217,7 @@ named-none w bytes old = record {
   names = [];
   said = refl;
   rises = λ ps h. h;
-  adds = record { worlds = refl; pairs = refl; facts = λ u p. (λ h. inl h, λ h. ⊎_elim (λ there. there) (λ e. absurd (none-new p e.1)) h) };
+  adds = record { worlds = refl; pairs = refl; facts = λ u p. none-more w u p };
   on = λ ps h. (ps, h);
 }
 

@@ -183,17 +183,8 @@ run-append [] ms s = refl
 run-append (l ∷ ls) ms s = run-append ls ms (step l s)
 
 step-wrong : (l : Line) → step l Wrong ≡ Wrong
-step-wrong heading = refl
-step-wrong (logic_is L) = refl
-step-wrong (formula_is a) = refl
-step-wrong proof_follows = refl
-step-wrong (step_is d r s) = refl
-step-wrong model_follows = refl
-step-wrong (worlds_are n) = refl
-step-wrong (refuted_is n w) = refl
-step-wrong (world_is n w row) = refl
-step-wrong ending = refl
 step-wrong nothing = refl
+step-wrong _ = refl
 
 pub run-wrong : (ls : List Line) → run ls Wrong ≡ Wrong
 run-wrong [] = refl

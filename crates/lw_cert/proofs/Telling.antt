@@ -1,64 +1,49 @@
 -- A text is told by one certificate, and has then no fault.
-use Rattle.std.proofs.Common.{◌≡◌, ℕ, zero, suc, ◌+◌, ◌<◌, ◌^◌, nat_eq, if◌then◌else◌, Bool, true, false, List, [], ◌∷◌, ◌++◌, length, map, codes, refl, sym, ◌∙◌, ap, subst, arith, inl, inr}
-use Rattle.std.proofs.lemmas.Bool.{false≢true}
+use Rattle.std.proofs.Common.{◌≡◌, ℕ, zero, suc, ◌+◌, ◌<◌, ◌^◌, nat_eq, if◌then◌else◌, List, [], ◌∷◌, ◌++◌, length, map, codes, refl, sym, ◌∙◌, ap, subst, arith, inl, inr}
 use Rattle.std.proofs.lemmas.List.{append_cancel_left}
 use Rattle.std.proofs.lemmas.Fmt.{decimal_injective}
 use Rattle.std.specs.Fmt.{decimal}
 use Rattle.lw_formula.specs.declared.logic.Logic.{Logic}
 use Rattle.lw_formula.specs.declared.sign.Sign.{Sign}
 use Rattle.lw_formula.specs.declared.sign.Sign.TheVariants.{T, F}
-use Rattle.lw_formula.specs.Formula.{Formula, falsum}
+use Rattle.lw_formula.specs.Formula.{Formula}
 use Rattle.lw_formula.specs.Logic.{word_of}
 use Rattle.lw_formula.specs.Signed.{Signed}
 use Rattle.lw_proof.specs.declared.rule.Rule.{Rule}
-use Rattle.lw_proof.specs.Tree.{Tree}
 use Rattle.lw_read.specs.Lexemes.{Lexeme}
 use Rattle.lw_read.specs.Laws.{HasOneTree}
 use Rattle.lw_read.specs.Text.{text_of}
 use Rattle.lw_read.specs.Grammar.{ReadsAs}
 use Rattle.lw_cert.specs.declared.fault.CertFault.TheVariants as fault
-use Rattle.lw_cert.specs.Lines.{Line, logic_is, formula_is, proof_follows, step_is, model_follows, worlds_are, refuted_is, world_is, Row, Piece, Stop, say, rule_word, sign_word, step_text, world_text, numbers, words, pieces, Climb, Rise, IsRow, IsAllowed, AreAllowed}
+use Rattle.lw_cert.specs.Lines.{Line, logic_is, formula_is, step_is, worlds_are, refuted_is, world_is, Row, say, rule_word, sign_word, step_text, world_text, numbers, words, pieces, Climb, Rise, IsRow, IsAllowed, AreAllowed}
 use Rattle.lw_cert.specs.Sheet.{Sheet, Content, Steps, steps, rows_from, content_lines, lines, IsFull, IsRegular}
 use Rattle.lw_cert.specs.Sheet as sheet
 use Rattle.lw_cert.specs.Laws.{HasOneCertificate, HasOneAnswer}
 use Rattle.lw_cert.specs.Machine.{State, Start, Headed, Chosen, Named, Proving, Sizing, Sized, Listing, Ended, Over, Wrong, step, run, IsOnTrack}
-use Rattle.lw_cert.specs.Views.{grown, steps_in}
 use Rattle.lw_cert.proofs.Runs.{closing, accepted, on-before}
-use Rattle.lw_cert.proofs.Reaching.{Takes, takes, bytes_of, rule-told, no-fault, step-step, step-refuted, step-world}
+use Rattle.lw_cert.proofs.Reaching.{Takes, takes, first_byte, second_byte, first_piece, other_pieces, bytes_of, rule-told, proof-no-model, no-fault, step-step, step-refuted, step-world}
 use Rattle.lw_cert.specs.Rows.{Ends}
 use Rattle.lw_cert.proofs.Splitting.{cut-same}
 use Rattle.lw_cert.proofs.Reading.{spaceless-decimal, spaceless-name, ends-numbers, ends-words, number-no-true, true-spaceless, tail-same}
 use Rattle.lw_cert.proofs.Growing.{grown-steps}
+use Rattle.lw_cert.proofs.Parts.{parts-same, proof-told}
 
 pub one-answer : (text : List ℕ) → HasOneAnswer text
 one-answer text c reads (fault.ModelText line) told = absurd (no-fault (pieces text) c told.0 reads told.2)
 one-answer text c reads (fault.ProofText line) told = absurd (no-fault (pieces text) c told.0 reads told.2)
 one-answer text c reads fault.Memory told = refl
 
-abbrev first : List ℕ → ℕ
-first [] = 0
-first (b ∷ bytes) = b
-
-abbrev second : List ℕ → ℕ
-second [] = 0
-second (b ∷ bytes) = first bytes
-
 abbrev logic_back : List ℕ → Logic
 logic_back bytes =
-    if nat_eq (first bytes) 107 then (if nat_eq (second bytes) 116 then Logic.KT else Logic.K) else
-    if nat_eq (first bytes) 115 then (if nat_eq (second bytes) 52 then Logic.S4 else Logic.S5) else
-    if nat_eq (second bytes) 108 then Logic.GL else Logic.Grz
+    if nat_eq (first_byte bytes) 107 then (if nat_eq (second_byte bytes) 116 then Logic.KT else Logic.K) else
+    if nat_eq (first_byte bytes) 115 then (if nat_eq (second_byte bytes) 52 then Logic.S4 else Logic.S5) else
+    if nat_eq (second_byte bytes) 108 then Logic.GL else Logic.Grz
 
 logic-is : (L : Logic) → logic_back (word_of L) ≡ L
-logic-is Logic.K = refl
-logic-is Logic.KT = refl
-logic-is Logic.S4 = refl
-logic-is Logic.S5 = refl
-logic-is Logic.GL = refl
-logic-is Logic.Grz = refl
+logic-is L = grind arith
 
 abbrev sign_back : List ℕ → Sign
-sign_back bytes = if nat_eq (first bytes) 84 then T else F
+sign_back bytes = if nat_eq (first_byte bytes) 84 then T else F
 
 sign-is : (s : Sign) (rest : List ℕ) → sign_back (sign_word s ++ rest) ≡ s
 sign-is T rest = refl
@@ -70,31 +55,25 @@ seen-told n least least' [] [] rest rest' small c d xs ys e f same = (refl, appe
 seen-told n least least' [] (u ∷ us) rest rest' small c d xs ys e f same =
     let within : u < 2 ^ 64 = let below = d.1 in omega (arith, below, small) in
     let bytes = tail-same 32 32 (codes "true" ++ rest) (decimal u ++ numbers us (codes " true" ++ rest')) same in
-    let cut = cut-same (codes "true") (decimal u) rest (numbers us (codes " true" ++ rest')) true-spaceless (spaceless-decimal u within) (subst Ends (sym e) (ends-words xs)) (ends-numbers us rest') bytes in
+    let cut = cut-same (codes "true") (decimal u) rest (numbers us (codes " true" ++ rest')) true-spaceless (spaceless-decimal u) (subst Ends (sym e) (ends-words xs)) (ends-numbers us rest') bytes in
     absurd (number-no-true u within (sym cut.0))
 seen-told n least least' (v ∷ vs) [] rest rest' small c d xs ys e f same =
     let within : v < 2 ^ 64 = let below = c.1 in omega (arith, below, small) in
     let bytes = tail-same 32 32 (decimal v ++ numbers vs (codes " true" ++ rest)) (codes "true" ++ rest') same in
-    let cut = cut-same (decimal v) (codes "true") (numbers vs (codes " true" ++ rest)) rest' (spaceless-decimal v within) true-spaceless (ends-numbers vs rest) (subst Ends (sym f) (ends-words ys)) bytes in
+    let cut = cut-same (decimal v) (codes "true") (numbers vs (codes " true" ++ rest)) rest' (spaceless-decimal v) true-spaceless (ends-numbers vs rest) (subst Ends (sym f) (ends-words ys)) bytes in
     absurd (number-no-true v within cut.0)
 seen-told n least least' (v ∷ vs) (u ∷ us) rest rest' small c d xs ys e f same =
     let within : v < 2 ^ 64 = let below = c.1 in omega (arith, below, small) in
     let within' : u < 2 ^ 64 = let below = d.1 in omega (arith, below, small) in
     let bytes = tail-same 32 32 (decimal v ++ numbers vs (codes " true" ++ rest)) (decimal u ++ numbers us (codes " true" ++ rest')) same in
-    let cut = cut-same (decimal v) (decimal u) (numbers vs (codes " true" ++ rest)) (numbers us (codes " true" ++ rest')) (spaceless-decimal v within) (spaceless-decimal u within') (ends-numbers vs rest) (ends-numbers us rest') bytes in
+    let cut = cut-same (decimal v) (decimal u) (numbers vs (codes " true" ++ rest)) (numbers us (codes " true" ++ rest')) (spaceless-decimal v) (spaceless-decimal u) (ends-numbers vs rest) (ends-numbers us rest') bytes in
     let more = seen-told n (v + 1) (u + 1) vs us rest rest' small c.2 d.2 xs ys e f cut.1 in
     ((λ i. decimal_injective v u within within' cut.0 i ∷ more.0 i), more.1)
 
 names-told : (last last' : List ℕ) (ps qs : List (List ℕ)) → Rise last ps → Rise last' qs → words ps ≡ words qs → ps ≡ qs
 names-told last last' [] [] c d same = refl
-names-told last last' [] (q ∷ qs) c d same = absurd (apart q (words qs) same)
-  where
-    apart : (q rest : List ℕ) → [] ≡ 32 ∷ (q ++ rest) → ⊥
-    apart q rest e = cc
-names-told last last' (p ∷ ps) [] c d same = absurd (apart p (words ps) same)
-  where
-    apart : (p rest : List ℕ) → 32 ∷ (p ++ rest) ≡ [] → ⊥
-    apart p rest e = cc
+names-told last last' [] (q ∷ qs) c d same = absurd (cc)
+names-told last last' (p ∷ ps) [] c d same = absurd (cc)
 names-told last last' (p ∷ ps) (q ∷ qs) c d same =
     let bytes = tail-same 32 32 (p ++ words ps) (q ++ words qs) same in
     let cut = cut-same p q (words ps) (words qs) (spaceless-name p c.0) (spaceless-name q d.0) (ends-words ps) (ends-words qs) bytes in
@@ -111,38 +90,6 @@ abbrev IsSmall : State → Type 0
 IsSmall (Sized n) = n < 2 ^ 64
 IsSmall (Listing n i k) = n < 2 ^ 64
 IsSmall _ = Unit {0}
-
-abbrev first_piece : List Piece → Piece
-first_piece [] = Stop
-first_piece (p ∷ ps) = p
-
-abbrev other_pieces : List Piece → List Piece
-other_pieces [] = []
-other_pieces (p ∷ ps) = ps
-
-abbrev other_lines : List Line → List Line
-other_lines [] = []
-other_lines (l ∷ ls) = ls
-
-abbrev logic_in : List Line → Logic
-logic_in (l ∷ logic_is L ∷ ls) = L
-logic_in _ = Logic.K
-
-abbrev formula_in : List Line → Formula
-formula_in (l ∷ m ∷ formula_is a ∷ ls) = a
-formula_in _ = falsum
-
-abbrev content_in : List Line → List Line
-content_in (l ∷ m ∷ n ∷ ls) = ls
-content_in _ = []
-
-abbrev is_proof : List Line → Bool
-is_proof (proof_follows ∷ ls) = true
-is_proof _ = false
-
-abbrev world_in : List Line → ℕ
-world_in (refuted_is n w ∷ ls) = w
-world_in _ = 0
 
 abbrev rows_in : List Line → List Row
 rows_in (world_is n w row ∷ ls) = row ∷ rows_in ls
@@ -174,14 +121,8 @@ module _ (one_tree : (ts : List Lexeme) → HasOneTree ts) where
       let text = append_cancel_left (codes "formula ") _ _ (ap bytes_of (sym (ap say is.1) ∙ same ∙ ap say js.1)) in
       is.1 ∙ ap formula_is (formula-told is.0 js.0 (subst IsAllowed is.1 al) (subst IsAllowed js.1 am) text) ∙ sym js.1
   line-told Named l m small (inl is) (inl js) al am same = is ∙ sym js
-  line-told Named l m small (inl is) (inr js) al am same = absurd (apart (sym (ap say is) ∙ same ∙ ap say js))
-    where
-      apart : say proof_follows ≡ say model_follows → ⊥
-      apart e = false≢true (sym (ap (λ p. nat_eq (first (bytes_of p)) 112) e))
-  line-told Named l m small (inr is) (inl js) al am same = absurd (apart (sym (ap say is) ∙ same ∙ ap say js))
-    where
-      apart : say model_follows ≡ say proof_follows → ⊥
-      apart e = false≢true (ap (λ p. nat_eq (first (bytes_of p)) 112) e)
+  line-told Named l m small (inl is) (inr js) al am same = absurd (proof-no-model (sym (ap say is) ∙ same ∙ ap say js))
+  line-told Named l m small (inr is) (inl js) al am same = absurd (proof-no-model (sym (sym (ap say is) ∙ same ∙ ap say js)))
   line-told Named l m small (inr is) (inr js) al am same = is ∙ sym js
   line-told (Proving []) l m small is js al am same = is ∙ sym js
   line-told (Proving (e ∷ ds)) l m small is js al am same =
@@ -222,14 +163,8 @@ module _ (one_tree : (ts : List Lexeme) → HasOneTree ts) where
 
   lines-told : (ls ms : List Line) (s : State) → IsSmall s → AreAllowed ls → AreAllowed ms → IsOnTrack (run ls s) → IsOnTrack (run ms s) → map say ls ≡ map say ms → ls ≡ ms
   lines-told [] [] s small al am on on' same = refl
-  lines-told [] (m ∷ ms) s small al am on on' same = absurd (apart (say m) (map say ms) same)
-    where
-      apart : (p : Piece) (ps : List Piece) → [] ≡ p ∷ ps → ⊥
-      apart p ps e = cc
-  lines-told (l ∷ ls) [] s small al am on on' same = absurd (apart (say l) (map say ls) same)
-    where
-      apart : (p : Piece) (ps : List Piece) → p ∷ ps ≡ [] → ⊥
-      apart p ps e = cc
+  lines-told [] (m ∷ ms) s small al am on on' same = absurd (cc)
+  lines-told (l ∷ ls) [] s small al am on on' same = absurd (cc)
   lines-told (l ∷ ls) (m ∷ ms) s small al am on on' same =
       let is = takes l s (on-before ls (step l s) on) in
       let js = takes m s (on-before ms (step m s) on') in
@@ -237,18 +172,16 @@ module _ (one_tree : (ts : List Lexeme) → HasOneTree ts) where
       let more = lines-told ls ms (step m s) (step-small s m small js am.0) al.1 am.1 (subst (λ k. IsOnTrack (run ls (step k s))) one on) on' (ap other_pieces same) in
       λ i. one i ∷ more i
 
-  -- parts of a certificate's lines
   content-told : (b c : Content) → IsRegular b → IsRegular c → content_lines b ≡ content_lines c → b ≡ c
-  content-told (Steps t) (Steps u) full full' same =
-      ap Steps (head-same t u (sym (grown-steps 1 t closing full) ∙ ap (λ ls. grown (steps_in ls) []) (ap other_lines same) ∙ grown-steps 1 u closing full'))
-    where
-      head-same : (t u : Tree Signed) → t ∷ [] ≡ u ∷ [] → t ≡ u
-      head-same t u e = cc
-  content-told (Steps t) (sheet.Table w rows) full full' same = absurd (false≢true (sym (ap is_proof same)))
-  content-told (sheet.Table w rows) (Steps t) full full' same = absurd (false≢true (ap is_proof same))
+  content-told (Steps t) c full full' same =
+      let other = proof-told c (steps 1 t closing) full' (sym same) in
+      let made : t ∷ [] ≡ other.0 ∷ [] = sym (grown-steps 1 t closing full) ∙ other.2 in
+      let proof : t ≡ other.0 = cc in
+      ap Steps proof ∙ sym other.1
+  content-told (sheet.Table w rows) (Steps t) full full' same = absurd (cc)
   content-told (sheet.Table w rows) (sheet.Table v others) full full' same =
-      let tail = ap (λ ls. other_lines (other_lines (other_lines ls))) same in
-      let world : w ≡ v = ap (λ ls. world_in (other_lines (other_lines ls))) same in
+      let tail : rows_from (length rows) 0 rows closing ≡ rows_from (length others) 0 others closing = cc in
+      let world : w ≡ v = cc in
       λ i. sheet.Table (world i) ((sym (rows-in (length rows) 0 rows) ∙ ap rows_in tail ∙ rows-in (length others) 0 others) i)
 
   pub one-certificate : (text : List ℕ) → HasOneCertificate text
@@ -256,8 +189,5 @@ module _ (one_tree : (ts : List Lexeme) → HasOneTree ts) where
       let over = accepted c reads.regular in
       let over' = accepted d reads'.regular in
       let same = lines-told (lines c) (lines d) Start tt reads.allowed reads'.allowed (subst IsOnTrack (sym over) tt) (subst IsOnTrack (sym over') tt) (sym reads.said ∙ reads'.said) in
-      λ i. record {
-        logic = ap logic_in same i;
-        formula = ap formula_in same i;
-        content = content-told c.content d.content reads.regular reads'.regular (ap content_in same) i;
-      }
+      let parts = parts-same c.logic d.logic c.formula d.formula (content_lines c.content) (content_lines d.content) same in
+      λ i. record { logic = parts.0 i; formula = parts.1 i; content = content-told c.content d.content reads.regular reads'.regular parts.2 i }

@@ -1,10 +1,15 @@
 -- What holds of texts of certificates as a whole.
 use Rattle.std.specs.Prelude.{◌≡◌, ℕ, List}
+use Rattle.lw_formula.specs.Formula.{Formula}
+use Rattle.lw_cert.specs.declared.certificate.Certificate.{Certificate}
 use Rattle.lw_cert.specs.declared.fault.CertFault.{CertFault}
 use Rattle.lw_cert.specs.declared.fault.CertFault.TheVariants.{Memory}
 use Rattle.lw_cert.specs.Lines.{pieces}
-use Rattle.lw_cert.specs.Sheet.{Sheet}
+use Rattle.lw_cert.specs.Sheet.{Sheet, IsRegular, lines}
+use Rattle.lw_cert.specs.Lines.{AreAllowed}
 use Rattle.lw_cert.specs.Faults.{Reads, IsFaultOf}
+use Rattle.lw_cert.specs.Certificates.{IsTextOf}
+use Rattle.lw_cert.specs.Written.{IsWritten}
 
 -- a text is that of at most one certificate
 abbrev pub HasOneCertificate : List ℕ → Type 0
@@ -13,3 +18,12 @@ HasOneCertificate text = (c d : Sheet) → Reads (pieces text) c → Reads (piec
 -- a certificate's text has no fault, so it is read but for want of memory
 abbrev pub HasOneAnswer : List ℕ → Type 0
 HasOneAnswer text = (c : Sheet) → Reads (pieces text) c → (fault : CertFault) → IsFaultOf text fault → fault ≡ Memory
+
+-- a certificate has one text, whatever the order of its model's lists
+abbrev pub HasOneText : List Formula → Certificate → Type 0
+HasOneText ts c = (text other : List ℕ) → IsWritten ts c text → IsWritten ts c other → text ≡ other
+
+-- what is written of a certificate is its text, where its steps have the subproofs that their rules ask for and each line
+-- keeps what it has to keep: no formula's text has a fault, and no step is too deep
+abbrev pub ReadsBack : List Formula → Certificate → List ℕ → Type 0
+ReadsBack ts c text = (is : IsWritten ts c text) → IsRegular is.sheet.content → AreAllowed (lines is.sheet) → IsTextOf ts c text

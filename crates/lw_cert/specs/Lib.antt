@@ -2,6 +2,8 @@ pub mod Lines
 pub mod Sheet
 pub mod Faults
 pub mod Certificates
+pub mod Written
+pub mod Writing
 pub mod Laws
 pub mod Machine
 pub mod Views

@@ -1,5 +1,7 @@
 ghost use Rattle.std.specs.Prelude.{ℕ, List};
-ghost use Rattle.lw_cert.specs.Laws.{HasOneAnswer, HasOneCertificate};
+ghost use Rattle.lw_formula.specs.Formula.{Formula};
+ghost use Rattle.lw_cert.specs.declared.certificate.Certificate.{Certificate};
+ghost use Rattle.lw_cert.specs.Laws.{HasOneAnswer, HasOneCertificate, HasOneText, ReadsBack};
 
 use lw_read::one_tree;
 
@@ -14,3 +16,14 @@ pub fn one_certificate()
 {
     one_tree();
 }
+
+/// Law: a certificate has one text, whatever the order of its model's lists.
+pub fn one_text()
+    ensures { (ts : List Formula) (c : Certificate) → HasOneText ts c }
+{}
+
+/// Law: what is written of a certificate is its text, where each step has the subproofs that its rule asks for, and each
+/// line keeps what it has to keep: no formula's text has a fault, and no step is deeper than 4,096.
+pub fn written_reads_back()
+    ensures { (ts : List Formula) (c : Certificate) (text : List ℕ) → ReadsBack ts c text }
+{}

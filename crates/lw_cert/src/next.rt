@@ -10,7 +10,7 @@ use crate::certificate::{Body, Certificate};
 use crate::formula::exact;
 use crate::row::read_row;
 use crate::stage::{Head, Stage, Step, Table};
-use crate::words::{after, logic_of, number, rule_of, sign_of};
+use crate::words::{after, number, rule_of, sign_of};
 use lw_formula::Logic;
 use lw_model::Model;
 use lw_pool::{Pool, SignedId};
@@ -56,7 +56,7 @@ fn headed(line: &[u8]) -> Option<Stage>
 fn chosen(line: &[u8]) -> Option<Stage>
     ensures { (ts : List Formula) → IsNext line.now ts Stage.Headed ts result }
 {
-    match logic_of(after(line, b"logic ")?) {
+    match Logic::from_word(after(line, b"logic ")?) {
         Some(logic) => Some(Stage::Chosen(logic)),
         None => None,
     }

@@ -118,3 +118,6 @@ fn is_modelling(stage: &Stage) -> bool
         | Stage::Ended(_) => false,
     }
 }
+
+#[cfg(test)]
+mod tests;

@@ -1,12 +1,10 @@
 ghost use Rattle.std.specs.Prelude.{◌≡◌, ◌≢◌, ℕ, ◌++◌, ◌^◌, ◌<◌, List, MatchOption, IfOk, codes};
 ghost use Rattle.std.specs.Fmt.{decimal};
-ghost use Rattle.lw_formula.specs.Logic.{word_of};
-ghost use Rattle.lw_formula.specs.declared.logic.Logic.{Logic};
 ghost use Rattle.lw_formula.specs.declared.sign.Sign.{Sign};
 ghost use Rattle.lw_proof.specs.declared.rule.Rule.{Rule};
 ghost use Rattle.lw_cert.specs.Lines.{rule_word, sign_word};
 
-use lw_formula::{Logic, Sign};
+use lw_formula::Sign;
 use lw_proof::Rule;
 use std::alloc::{AllocError, Global};
 use std::str::from_utf8;
@@ -16,27 +14,6 @@ pub fn after<'a>(line: &'a [u8], word: &[u8]) -> Option<&'a [u8]>
     ensures { MatchOption result ((rest : List ℕ) → line.now ≢ word.now ++ rest) (λ rest. line.now ≡ word.now ++ rest.now) }
 {
     line.strip_prefix(word)
-}
-
-/// The logic of a word.
-pub fn logic_of(word: &[u8]) -> Option<Logic>
-    ensures { MatchOption result ((logic : Logic) → word.now ≢ word_of logic) (λ logic. word.now ≡ word_of logic) }
-{
-    if word == b"k".as_slice() {
-        Some(Logic::K)
-    } else if word == b"kt".as_slice() {
-        Some(Logic::KT)
-    } else if word == b"s4".as_slice() {
-        Some(Logic::S4)
-    } else if word == b"s5".as_slice() {
-        Some(Logic::S5)
-    } else if word == b"gl".as_slice() {
-        Some(Logic::GL)
-    } else if word == b"grz".as_slice() {
-        Some(Logic::Grz)
-    } else {
-        None
-    }
 }
 
 /// The rule whose word with its space the line begins with, and what stands behind it.
@@ -63,6 +40,21 @@ pub fn rule_of(line: &[u8]) -> Option<(Rule, &[u8])>
     }
 }
 
+/// The rule's word with its space.
+pub fn rule_word(rule: Rule) -> &'static str
+    ensures { result.now ≡ rule_word rule }
+{
+    match rule {
+        Rule::Close => "close ",
+        Rule::Absurd => "absurd ",
+        Rule::One => "one ",
+        Rule::Two => "two ",
+        Rule::Refl => "refl ",
+        Rule::Step => "step ",
+        Rule::Cut => "cut ",
+    }
+}
+
 /// The sign with its space that the text begins with, and what stands behind it.
 pub fn sign_of(text: &[u8]) -> Option<(Sign, &[u8])>
     ensures { MatchOption result ((sign : Sign) (rest : List ℕ) → text.now ≢ sign_word sign ++ rest)
@@ -74,6 +66,16 @@ pub fn sign_of(text: &[u8]) -> Option<(Sign, &[u8])>
         Some((Sign::F, rest))
     } else {
         None
+    }
+}
+
+/// The sign with its space.
+pub fn sign_word(sign: Sign) -> &'static str
+    ensures { result.now ≡ sign_word sign }
+{
+    match sign {
+        Sign::T => "T ",
+        Sign::F => "F ",
     }
 }
 

@@ -15,7 +15,7 @@ mod reader;
 pub use fault::ReadFault;
 pub use laws::{one_answer, one_tree, reads_back};
 pub use lexer::{Token, TokenKind, tokens};
-pub use pool_printer::{LONGEST_TEXT, print_formula};
+pub use pool_printer::{LONGEST_TEXT, print_formula, write_formula};
 pub use print_fault::PrintFault;
 pub use printer::print_form;
 pub use reader::read_formula;

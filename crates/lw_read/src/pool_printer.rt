@@ -45,7 +45,8 @@ pub fn print_formula(alloc: Global, pool: &Pool, id: FormId) -> Result<Vec<u8>, 
     Ok(out)
 }
 
-fn write_formula(
+/// Writes the text of the pool's formula behind what is there, whatever its length. It fails for want of memory alone.
+pub fn write_formula(
     alloc: Global,
     pool: &Pool,
     id: FormId,

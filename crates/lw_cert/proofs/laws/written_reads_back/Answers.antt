@@ -1,0 +1,5 @@
+use Rattle.lw_cert.proofs.Back.{reads-back}
+use Rattle.lw_cert.proofs.laws.written_reads_back.Goals as goal
+
+pub returns : goal.returns
+returns c = reads-back
