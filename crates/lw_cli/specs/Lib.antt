@@ -8,3 +8,4 @@ pub mod Checked
 pub mod CheckSteps
 pub mod Commands
 pub mod Headline
+pub mod Certified
