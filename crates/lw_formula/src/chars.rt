@@ -78,6 +78,7 @@ mod tests {
     #[test]
     fn a_clone_has_the_same_bytes(rt: HostRuntime) -> Result<(), Fail> {
         let text = Chars::from_bytes(rt.alloc(), b"a b\n")?;
+        assert_eq!(rt; text.as_bytes(), b"a b\n".as_slice());
         assert_eq!(rt; text.try_clone()?.as_bytes(), b"a b\n".as_slice());
         Ok(())
     }

@@ -1,13 +1,10 @@
 ghost use Rattle.std.specs.Prelude.{◌≡◌, IfOk, IfErr, OnOk, min, length, Contains};
-ghost use Rattle.std.specs.Ordering.{nat_cmp};
-ghost use Rattle.std.specs.Cmp.Lexicographic.{slice_cmp};
 ghost use Rattle.lw_formula.specs.Formula.{depth, letter};
 ghost use Rattle.lw_formula.specs.Variables.{replace, AreVariables, AreInByteOrder, AddsVariables, IsGapFor};
 ghost use Rattle.lw_formula.specs.Tree.{tree_of};
 
 use crate::name::Name;
 use std::alloc::{AllocError, Global};
-use std::cmp::Ordering;
 
 /// A formula as a plain tree.
 #[derive(Debug, Drop)]
@@ -148,14 +145,7 @@ fn place_of(names: &[Name], name: &Name) -> Result<usize, usize>
     ensures found { IfOk result (λ _. Contains names.now name.now) }
     ensures absent { IfErr result (IsGapFor names.now name.now) }
 {
-    names.binary_search_by(|own| order(own, name))
-}
-
-// How the names compare by their bytes.
-fn order(name: &Name, other: &Name) -> Ordering
-    ensures { result ≡ slice_cmp nat_cmp name.now other.now }
-{
-    name.as_bytes().cmp(other.as_bytes())
+    names.binary_search(name)
 }
 
 #[cfg(test)]
@@ -197,6 +187,31 @@ mod tests {
         let expected = both(alloc, by.try_clone(alloc)?, variable(alloc, "q")?)?;
         let text = format!(in alloc; "{changed:?}")?;
         assert_eq!(rt; text.as_str(), format!(in alloc; "{expected:?}")?.as_str());
+        Ok(())
+    }
+
+    #[test]
+    fn a_clone_is_the_same_tree(rt: HostRuntime) -> Result<(), Fail> {
+        let alloc = rt.alloc();
+        let form = boxed(alloc, both(alloc, variable(alloc, "p")?, Form::Top)?)?;
+        let text = format!(in alloc; "{:?}", form.try_clone(alloc)?)?;
+        assert_eq!(rt; text.as_str(), format!(in alloc; "{form:?}")?.as_str());
+        Ok(())
+    }
+
+    #[test]
+    fn a_name_is_put_between_its_neighbours_once(rt: HostRuntime) -> Result<(), Fail> {
+        let alloc = rt.alloc();
+        let mut names = both(alloc, variable(alloc, "p")?, variable(alloc, "r")?)?.variables(
+            alloc,
+        )?;
+        let between = Name::from_bytes(alloc, b"q")?;
+        add_name(&mut names, &between)?;
+        add_name(&mut names, &between)?;
+        assert_eq!(rt; names.len(), 3);
+        assert_eq!(rt; names[0].as_bytes(), b"p".as_slice());
+        assert_eq!(rt; names[1].as_bytes(), b"q".as_slice());
+        assert_eq!(rt; names[2].as_bytes(), b"r".as_slice());
         Ok(())
     }
 }
