@@ -36,9 +36,9 @@ rows_from-append : (n i : ℕ) (rows : List Row) (ls ms : List Line) → rows_fr
 rows_from-append n i [] ls ms = refl
 rows_from-append n i (row ∷ rows) ls ms = ap (λ ks. world_is n i row ∷ ks) (rows_from-append n (suc i) rows ls ms)
 
-rows_from-push : (n i k : ℕ) (rows : List Row) (row : Row) → i + length rows ≡ k → rows_from n i (rows ++ row ∷ []) [] ≡ rows_from n i rows (world_is n k row ∷ [])
-rows_from-push n i k [] row e = let same : i ≡ k = omega arith in ap (λ j. world_is n j row ∷ []) same
-rows_from-push n i k (r ∷ rows) row e = ap (λ ks. world_is n i r ∷ ks) (rows_from-push n (suc i) k rows row (omega arith))
+pub rows_from-push : (n i k : ℕ) (rows : List Row) (row : Row) (ls : List Line) → i + length rows ≡ k → rows_from n i (rows ++ row ∷ []) ls ≡ rows_from n i rows (world_is n k row ∷ ls)
+rows_from-push n i k [] row ls e = let same : i ≡ k = omega arith in ap (λ j. world_is n j row ∷ ls) same
+rows_from-push n i k (r ∷ rows) row ls e = ap (λ ks. world_is n i r ∷ ks) (rows_from-push n (suc i) k rows row ls (omega arith))
 
 -- what the rows tell of one kind, the worlds seen or the variables, when they are one row more
 row-push : {X : Type 0} (part : Row → List X) → part (record { sees = []; names = [] }) ≡ [] → (rows : List Row) (row : Row) (i u : ℕ) (x : X) → length rows ≡ i
@@ -63,9 +63,9 @@ both-more same new push = (
 
 -- what one row more adds
 adds-row : (i : ℕ) (rows : List Row) (row : Row) (old new : FiniteModel) → length rows ≡ i → AreRowsOf old rows → AddsRow i row old new → AreRowsOf new (rows ++ row ∷ [])
-adds-row i rows row old new count are adds = record {
-  relation = λ u v. both-more (are.relation u v) (adds.relation u v) (row-push (λ r. r.sees) refl rows row i u v count);
-  facts = λ u p. both-more (are.facts u p) (adds.facts u p) (row-push (λ r. r.names) refl rows row i u p count);
+adds-row i rows row old new count are adds = λ u. record {
+  relation = λ v. both-more ((are u).relation v) (adds.relation u v) (row-push (λ r. r.sees) refl rows row i u v count);
+  facts = λ p. both-more ((are u).facts p) (adds.facts u p) (row-push (λ r. r.names) refl rows row i u p count);
 }
 
 -- a model without rows yet
@@ -87,7 +87,7 @@ leads-refuted ts bytes word h n w m begins is low made =
             (
               [],
               refl,
-              record { relation = λ u v. (λ k. absurd (Contains-nil (u, v) k), λ k. absurd (Contains-nil v k)); facts = λ u p. (λ k. absurd (Contains-nil (u, p) k), λ k. absurd (Contains-nil p k)) },
+              λ u. record { relation = λ v. (λ k. absurd (Contains-nil (u, v) k), λ k. absurd (Contains-nil v k)); facts = λ p. (λ k. absurd (Contains-nil (u, p) k), λ k. absurd (Contains-nil p k)) },
               ap (λ ks. ks ++ l ∷ []) e.1,
             ),
           )),
@@ -114,7 +114,7 @@ leads-row ts bytes h m m' r i low reads =
               adds-row i e.3.0 reads.row m m' count e.3.2 reads.adds,
               ap (λ ks. ks ++ l ∷ []) e.3.3
                   ∙ ap (λ ks. opening ts h (model_follows ∷ worlds_are m.worlds ∷ refuted_is m.worlds r ∷ ks))
-                  (rows_from-append m.worlds 0 e.3.0 [] (l ∷ []) ∙ sym (rows_from-push m.worlds 0 i e.3.0 reads.row (omega (arith, count))))
+                  (rows_from-append m.worlds 0 e.3.0 [] (l ∷ []) ∙ sym (rows_from-push m.worlds 0 i e.3.0 reads.row [] (omega (arith, count))))
                   ∙ ap (λ n. opening ts h (model_follows ∷ worlds_are n ∷ refuted_is n r ∷ rows_from n 0 (e.3.0 ++ reads.row ∷ []) [])) (sym same),
             ),
           )),

@@ -13,7 +13,6 @@ pub mod Telling
 pub mod Feedless
 pub mod Back
 pub mod Ordered
-pub mod Sorting
 pub mod Tabling
 pub mod Writing
 pub mod Subproofs

@@ -92,7 +92,7 @@ content-same ts (Refuted m w) (Table v rows) (Steps t) is is' o o' = absurd is'
 content-same ts (Refuted m w) (Table v rows) (Table u others) is is' o o' =
     let count : length rows ≡ length others = sym is.2 ∙ is'.2 in
     let same = rows-same (length rows) rows others count o (subst (λ n. All (IsRow n) others) (sym count) o')
-    (λ x y. through (is.3.relation x y) (is'.3.relation x y)) (λ x p. through (is.3.facts x p) (is'.3.facts x p)) in
+    (λ x y. through ((is.3 x).relation y) ((is'.3 x).relation y)) (λ x p. through ((is.3 x).facts p) ((is'.3 x).facts p)) in
     λ i. Table ((sym is.0 ∙ is'.0) i) (same i)
 
 sheet-same : (ts : List Formula) (c : Certificate) (s t : Sheet) → IsSheetOf ts c s → IsSheetOf ts c t → IsOrdered s.content → IsOrdered t.content → s ≡ t

@@ -12,8 +12,7 @@ use Rattle.std.specs.declared.cmp.Ordering.TheVariants.{Less}
 use Rattle.lw_formula.specs.FiniteModel.{FiniteModel, Sees, HasFact}
 use Rattle.lw_formula.specs.Name.{is_name}
 use Rattle.lw_formula.proofs.Members.{Contains-nil}
-use Rattle.lw_model.specs.Edits.{with_pair, with_fact}
-use Rattle.lw_model.proofs.Additions.{Sees-with_pair, facts-with_pair, worlds-with_pair, HasFact-with_fact, pairs-with_fact, worlds-with_fact}
+use Rattle.lw_model.specs.Edits.{AddsPair, AddsFact}
 use Rattle.lw_cert.specs.Lines.{Row, Climb, Rise, numbers, words, world_text}
 use Rattle.lw_cert.specs.Rows.{IsSpaceless, Ends, IsWord, AddsPairs, AddsFacts, IsSeen, IsNamed, ReadsSeen, ReadsNames, ReadsRow, IsNoRow, HasPassed, HasNamed}
 use Rattle.lw_cert.proofs.Splitting.{cut-same}
@@ -107,11 +106,11 @@ number-word n least rest word next (u ∷ us) other small is differs seen =
     let same = tail-same 32 32 (word ++ next) (decimal u ++ numbers us (codes " true" ++ other)) (sym is.said ∙ seen.said) in
     (u, within, (cut-same word (decimal u) next (numbers us (codes " true" ++ other)) is.spaceless (spaceless-decimal u) is.ends (ends-numbers us other) same).0)
 
-numbers-push : (vs rest : List ℕ) (v : ℕ) → numbers (vs ++ v ∷ []) rest ≡ numbers vs (32 ∷ (decimal v ++ rest))
+pub numbers-push : (vs rest : List ℕ) (v : ℕ) → numbers (vs ++ v ∷ []) rest ≡ numbers vs (32 ∷ (decimal v ++ rest))
 numbers-push [] rest v = refl
 numbers-push (u ∷ us) rest v = ap (λ bytes. 32 ∷ (decimal u ++ bytes)) (numbers-push us rest v)
 
-words-push : (ps : List (List ℕ)) (rest p : List ℕ) → words (ps ++ p ∷ []) ++ rest ≡ words ps ++ (32 ∷ (p ++ rest))
+pub words-push : (ps : List (List ℕ)) (rest p : List ℕ) → words (ps ++ p ∷ []) ++ rest ≡ words ps ++ (32 ∷ (p ++ rest))
 words-push [] rest p = ap (λ bytes. 32 ∷ (bytes ++ rest)) (append-nil p)
 words-push (q ∷ qs) rest p =
     ap (λ bytes. 32 ∷ bytes) (append_assoc q (words (qs ++ p ∷ [])) rest ∙ ap (λ bytes. q ++ bytes) (words-push qs rest p) ∙ sym (append_assoc q (words qs) (32 ∷ (p ++ rest))))
@@ -133,19 +132,19 @@ one-more w v seen Old Now New now new u x = (
 none-more : {X Old : Type 0} (w u : ℕ) (x : X) → Old ↔ (Old ⊎ ((w ≡ u) × Contains [] x))
 none-more w u x = (λ h. inl h, λ h. ⊎_elim (λ there. there) (λ e. absurd (Contains-nil x e.1)) h)
 
-adds-pair : (w v : ℕ) (seen : List ℕ) (old now new : FiniteModel) → AddsPairs w seen old now → new ≡ with_pair now w v → AddsPairs w (seen ++ v ∷ []) old new
-adds-pair w v seen old now new adds is = subst (AddsPairs w (seen ++ v ∷ []) old) (sym is) (record {
-  worlds = worlds-with_pair now w v ∙ adds.worlds;
-  relation = one-more w v seen (Sees old) (Sees now) (Sees (with_pair now w v)) adds.relation (Sees-with_pair now w v);
-  facts = facts-with_pair now w v ∙ adds.facts;
-})
+adds-pair : (w v : ℕ) (seen : List ℕ) (old now new : FiniteModel) → AddsPairs w seen old now → AddsPair now w v new → AddsPairs w (seen ++ v ∷ []) old new
+adds-pair w v seen old now new adds more = record {
+  worlds = more.worlds ∙ adds.worlds;
+  relation = one-more w v seen (Sees old) (Sees now) (Sees new) adds.relation more.relation;
+  facts = more.facts ∙ adds.facts;
+}
 
-adds-fact : (w : ℕ) (p : List ℕ) (names : List (List ℕ)) (old now new : FiniteModel) → AddsFacts w names old now → new ≡ with_fact now w p → AddsFacts w (names ++ p ∷ []) old new
-adds-fact w p names old now new adds is = subst (AddsFacts w (names ++ p ∷ []) old) (sym is) (record {
-  worlds = worlds-with_fact now w p ∙ adds.worlds;
-  pairs = pairs-with_fact now w p ∙ adds.pairs;
-  facts = one-more w p names (HasFact old) (HasFact now) (HasFact (with_fact now w p)) adds.facts (HasFact-with_fact now w p);
-})
+adds-fact : (w : ℕ) (p : List ℕ) (names : List (List ℕ)) (old now new : FiniteModel) → AddsFacts w names old now → AddsFact now w p new → AddsFacts w (names ++ p ∷ []) old new
+adds-fact w p names old now new adds more = record {
+  worlds = more.worlds ∙ adds.worlds;
+  pairs = more.pairs ∙ adds.pairs;
+  facts = one-more w p names (HasFact old) (HasFact now) (HasFact new) adds.facts more.relation;
+}
 
 pub passed-none : (w : ℕ) (bytes : List ℕ) (old : FiniteModel) → HasPassed w bytes bytes 0 old old
 passed-none w bytes old = record {
@@ -156,7 +155,7 @@ passed-none w bytes old = record {
   on = λ vs other h. (vs, h);
 }
 
-pub passed-more : (w v least : ℕ) (bytes rest word next : List ℕ) (old now new : FiniteModel) → old.worlds < 2 ^ 64 → HasPassed w bytes rest least old now → IsWord rest word next → word ≡ decimal v → word ≢ codes "true" → least ≤ v → v < old.worlds → new ≡ with_pair now w v
+pub passed-more : (w v least : ℕ) (bytes rest word next : List ℕ) (old now new : FiniteModel) → old.worlds < 2 ^ 64 → HasPassed w bytes rest least old now → IsWord rest word next → word ≡ decimal v → word ≢ codes "true" → least ≤ v → v < old.worlds → AddsPair now w v new
     → HasPassed w bytes next (v + 1) old new
 passed-more w v least bytes rest word next old now new small passed is digits differs high low added = record {
   seen = passed.seen ++ v ∷ [];
@@ -221,7 +220,7 @@ named-none w bytes old = record {
   on = λ ps h. (ps, h);
 }
 
-pub named-more : (w : ℕ) (bytes rest last word next : List ℕ) (old now new : FiniteModel) → HasNamed w bytes rest last old now → IsWord rest word next → IsTrue (is_name word) → slice_cmp nat_cmp last word ≡ Less → new ≡ with_fact now w word → HasNamed w bytes next word old new
+pub named-more : (w : ℕ) (bytes rest last word next : List ℕ) (old now new : FiniteModel) → HasNamed w bytes rest last old now → IsWord rest word next → IsTrue (is_name word) → slice_cmp nat_cmp last word ≡ Less → AddsFact now w word new → HasNamed w bytes next word old new
 named-more w bytes rest last word next old now new named is name less added = record {
   names = named.names ++ word ∷ [];
   said = named.said ∙ ap (λ xs. words named.names ++ xs) is.said ∙ sym (words-push named.names next word);

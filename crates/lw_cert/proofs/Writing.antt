@@ -1,11 +1,11 @@
 -- The bytes of lines, one behind the other.
-use Rattle.std.proofs.Common.{◌≡◌, ℕ, suc, ◌+◌, ◌-◌, ◌<◌, ◌≤◌, List, [], ◌∷◌, ◌++◌, codes, refl, sym, ◌∙◌, ap, arith}
-use Rattle.std.proofs.lemmas.List.{append_assoc}
+use Rattle.std.proofs.Common.{◌≡◌, ℕ, ◌+◌, ◌<◌, List, [], ◌∷◌, ◌++◌, length, get_or, take, codes, refl, sym, ◌∙◌, ap}
+use Rattle.std.proofs.lemmas.List.{append_assoc, append-nil, take_more}
 use Rattle.std.specs.Fmt.{decimal}
 use Rattle.lw_cert.specs.Lines.{Line, Whole, Row, model_follows, worlds_are, refuted_is, world_is, ending, say, numbers, words, world_text}
-use Rattle.lw_cert.specs.Sheet.{rows_from}
 use Rattle.lw_cert.specs.Written.{piece_text, text_of_lines}
-use Rattle.lw_cert.specs.Writing.{Writes, Leaves, seconds, beyond, rows}
+use Rattle.lw_cert.specs.Writing.{Writes}
+use Rattle.lw_cert.proofs.Reading.{numbers-push, words-push}
 
 -- lines behind lines
 pub writes-then : (a b c : List ℕ) (f g : List Line → List Line) → Writes a b f → Writes b c g → Writes a c (λ rest. f (g rest))
@@ -20,37 +20,36 @@ numbers-append : (vs xs ys : List ℕ) → numbers vs xs ++ ys ≡ numbers vs (x
 numbers-append [] xs ys = refl
 numbers-append (v ∷ vs) xs ys = ap (λ zs. 32 ∷ zs) (append_assoc (decimal v) (numbers vs xs) ys ∙ ap (λ zs. decimal v ++ zs) (numbers-append vs xs ys))
 
+-- one more number was written
+pub numbers-more : (vs : List ℕ) (i : ℕ) (old a b c : List ℕ) → i < length vs → ((after : List ℕ) → a ++ after ≡ old ++ numbers (take i vs) after)
+    → b ≡ a ++ 32 ∷ [] → c ≡ b ++ decimal (get_or vs i 0) → (after : List ℕ) → c ++ after ≡ old ++ numbers (take (i + 1) vs) after
+numbers-more vs i old a b c within so space number after =
+    let v : ℕ = get_or vs i 0 in
+    let written : c ++ after ≡ a ++ (32 ∷ (decimal v ++ after)) = ap (λ xs. xs ++ after) (number ∙ ap (λ xs. xs ++ decimal v) space) ∙ simp append_assoc in
+    written ∙ so (32 ∷ (decimal v ++ after)) ∙ ap (λ xs. old ++ xs) (sym (numbers-push (take i vs) after v)) ∙ ap (λ ws. old ++ numbers ws after) (sym (take_more vs i 0 within))
+
+-- one more name was written
+pub words-more : (ps : List (List ℕ)) (i : ℕ) (p old a b c : List ℕ) → i < length ps → p ≡ get_or ps i [] → a ≡ old ++ words (take i ps)
+    → b ≡ a ++ 32 ∷ [] → c ≡ b ++ p → c ≡ old ++ words (take (i + 1) ps)
+words-more ps i p old a b c within is so space name =
+    let written : c ≡ old ++ (words (take i ps) ++ (32 ∷ (p ++ []))) =
+    name ∙ ap (λ xs. xs ++ p) (space ∙ ap (λ xs. xs ++ 32 ∷ []) so) ∙ ap (λ xs. ((old ++ words (take i ps)) ++ 32 ∷ []) ++ xs) (sym (append-nil p)) ∙ simp append_assoc
+    in
+    written ∙ ap (λ xs. old ++ xs) (sym (words-push (take i ps) [] p) ∙ append-nil (words (take i ps ++ p ∷ [])))
+    ∙ ap (λ q. old ++ words (take i ps ++ q ∷ [])) is ∙ ap (λ qs. old ++ words qs) (sym (take_more ps i [] within))
+
 -- the line of a world by its parts
-pub writes-row : (n w : ℕ) (row : Row) (a b c d e : List ℕ) → b ≡ a ++ codes "world " → c ≡ b ++ decimal w
-    → ((after : List ℕ) → d ++ after ≡ c ++ (codes " sees" ++ numbers row.sees after)) → e ≡ d ++ (codes " true" ++ (words row.names ++ 10 ∷ []))
-    → Writes a e (λ rest. world_is n w row ∷ rest)
-writes-row n w row a b c d e begun numbered seen named = λ rest.
+pub writes-row : (n w : ℕ) (vs : List ℕ) (ps : List (List ℕ)) (a b c d e f g h : List ℕ) → b ≡ a ++ codes "world " → c ≡ b ++ decimal w → d ≡ c ++ codes " sees"
+    → ((after : List ℕ) → e ++ after ≡ d ++ numbers vs after) → f ≡ e ++ codes " true" → g ≡ f ++ words ps → h ≡ g ++ 10 ∷ []
+    → Writes a h (λ rest. world_is n w (record { sees = vs; names = ps }) ∷ rest)
+writes-row n w vs ps a b c d e f g h word number sees seen true' named feed = λ rest.
     let T : List ℕ = text_of_lines rest in
-    let tail : List ℕ = codes " true" ++ (words row.names ++ 10 ∷ T) in
-    let ends : e ++ T ≡ d ++ tail = ap (λ xs. xs ++ T) named ∙ simp append_assoc in
-    let begins : c ≡ a ++ (codes "world " ++ decimal w) = numbered ∙ ap (λ xs. xs ++ decimal w) begun ∙ append_assoc a (codes "world ") (decimal w) in
-    let whole : a ++ ((world_text w row ++ 10 ∷ []) ++ T) ≡ (a ++ (codes "world " ++ decimal w)) ++ (codes " sees" ++ numbers row.sees tail) = simp (append_assoc, numbers-append) in
-    ends ∙ seen tail ∙ ap (λ xs. xs ++ (codes " sees" ++ numbers row.sees tail)) begins ∙ sym whole
-
--- one more row was written
-pub rows-next : (n w : ℕ) (ps qs : List (ℕ × ℕ)) (fs gs : List (ℕ × List ℕ)) (old a e : List ℕ) (whole : List Line → List Line) → w < n
-    → Leaves old a whole (rows_from n w (rows (n - w) w ps fs)) → Writes a e (λ rest. world_is n w (record { sees = seconds w ps; names = seconds w fs }) ∷ rest)
-    → qs ≡ beyond w ps → gs ≡ beyond w fs → Leaves old e whole (rows_from n (w + 1) (rows (n - (w + 1)) (w + 1) qs gs))
-rows-next n w ps qs fs gs old a e whole within leaves more pairs facts = λ rest.
-    let k : ℕ = n - (w + 1) in
-    let next : w + 1 ≡ suc w = omega arith in
-    let left : suc k ≡ n - w = omega arith in
-    (λ i. e ++ text_of_lines (rows_from n (next i) (rows k (next i) (pairs i) (facts i)) rest))
-    ∙ more (rows_from n (suc w) (rows k (suc w) (beyond w ps) (beyond w fs)) rest)
-    ∙ ap (λ j. a ++ text_of_lines (rows_from n w (rows j w ps fs) rest)) left
-    ∙ leaves rest
-
--- no row is left
-pub rows-over : (n w : ℕ) (ps : List (ℕ × ℕ)) (fs : List (ℕ × List ℕ)) (old a : List ℕ) (whole : List Line → List Line) → n ≤ w
-    → Leaves old a whole (rows_from n w (rows (n - w) w ps fs)) → Writes old a whole
-rows-over n w ps fs old a whole over leaves = λ rest.
-    let left : n - w ≡ 0 = omega arith in
-    sym (ap (λ j. a ++ text_of_lines (rows_from n w (rows j w ps fs) rest)) left) ∙ leaves rest
+    let tail : List ℕ = codes " true" ++ (words ps ++ (10 ∷ T)) in
+    let row : Row = record { sees = vs; names = ps } in
+    let ends : h ++ T ≡ e ++ tail = ap (λ xs. xs ++ T) (feed ∙ ap (λ xs. xs ++ 10 ∷ []) (named ∙ ap (λ xs. xs ++ words ps) true')) ∙ simp append_assoc in
+    let begins : d ≡ a ++ (codes "world " ++ (decimal w ++ codes " sees")) = sees ∙ ap (λ xs. xs ++ codes " sees") (number ∙ ap (λ xs. xs ++ decimal w) word) ∙ simp append_assoc in
+    let whole : a ++ ((world_text w row ++ 10 ∷ []) ++ T) ≡ (a ++ (codes "world " ++ (decimal w ++ codes " sees"))) ++ numbers vs tail = simp (append_assoc, numbers-append) in
+    ends ∙ seen tail ∙ ap (λ xs. xs ++ numbers vs tail) begins ∙ sym whole
 
 -- the lines of a model before those of its worlds
 pub writes-counts : (n w : ℕ) (a b c d : List ℕ) → b ≡ a ++ (codes "model" ++ 10 ∷ []) → c ≡ b ++ (codes "worlds " ++ decimal n ++ 10 ∷ []) → d ≡ c ++ (codes "refuted " ++ decimal w ++ 10 ∷ [])

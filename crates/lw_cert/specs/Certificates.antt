@@ -16,10 +16,14 @@ use Rattle.lw_cert.specs.Faults.{Reads}
 abbrev pub row_at : List Row → ℕ → Row
 row_at rows w = slice_index_or rows w (record { sees = []; names = [] })
 
+-- the row tells what world w sees, and what is true there
+pub record IsRowOf (m : FiniteModel) (w : ℕ) (row : Row) : Type 0 where
+  pub relation : (v : ℕ) → Sees m w v ↔ Contains row.sees v
+  pub facts : (p : List ℕ) → HasFact m w p ↔ Contains row.names p
+
 -- the rows tell the model's relation and facts
-pub record AreRowsOf (m : FiniteModel) (rows : List Row) : Type 0 where
-  pub relation : (w v : ℕ) → Sees m w v ↔ Contains (row_at rows w).sees v
-  pub facts : (w : ℕ) (p : List ℕ) → HasFact m w p ↔ Contains (row_at rows w).names p
+abbrev pub AreRowsOf : FiniteModel → List Row → Type 0
+AreRowsOf m rows = (w : ℕ) → IsRowOf m w (row_at rows w)
 
 -- the content is what the body says
 abbrev pub IsContentOf : List Formula → Body → Content → Type 0

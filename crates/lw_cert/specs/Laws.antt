@@ -24,6 +24,6 @@ abbrev pub HasOneText : List Formula → Certificate → Type 0
 HasOneText ts c = (text other : List ℕ) → IsWritten ts c text → IsWritten ts c other → text ≡ other
 
 -- what is written of a certificate is its text, where its steps have the subproofs that their rules ask for and each line
--- keeps what it has to keep: no formula's text has a fault, and no step is too deep
+-- keeps what it has to keep: no formula's text has a fault, no step is too deep, and a model has 1 to 2^64 - 1 worlds
 abbrev pub ReadsBack : List Formula → Certificate → List ℕ → Type 0
 ReadsBack ts c text = (is : IsWritten ts c text) → IsRegular is.sheet.content → AreAllowed (lines is.sheet) → IsTextOf ts c text

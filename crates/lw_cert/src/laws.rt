@@ -23,7 +23,8 @@ pub fn one_text()
 {}
 
 /// Law: what is written of a certificate is its text, where each step has the subproofs that its rule asks for, and each
-/// line keeps what it has to keep: no formula's text has a fault, and no step is deeper than 4,096.
+/// line keeps what it has to keep: no formula's text has a fault, no step is deeper than 4,096, and a model has 1 to
+/// 2^64 - 1 worlds.
 pub fn written_reads_back()
     ensures { (ts : List Formula) (c : Certificate) (text : List ℕ) → ReadsBack ts c text }
 {}

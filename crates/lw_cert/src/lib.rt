@@ -11,7 +11,6 @@ mod next;
 mod proof_writer;
 mod reader;
 mod row;
-mod sorted;
 mod split;
 mod stage;
 mod words;

@@ -1,10 +1,10 @@
-ghost use Rattle.std.specs.Prelude.{◌≡◌, ℕ, ◌<◌, ◌++◌, ◌∷◌, [], List, map, codes, IfOk, OnOk};
+ghost use Rattle.std.specs.Prelude.{◌≡◌, ℕ, ◌<◌, ◌++◌, ◌∷◌, [], List, OnOk};
 ghost use Rattle.std.specs.Fmt.{decimal};
+ghost use Rattle.lw_formula.specs.FiniteModel.{IsWellFormed};
 ghost use Rattle.lw_cert.specs.Lines.{numbers, words};
-ghost use Rattle.lw_cert.specs.Sheet.{rows_from};
-ghost use Rattle.lw_cert.specs.Writing.{Writes, WritesModel, rows, seconds, beyond, shown};
+ghost use Rattle.lw_cert.specs.Writing.{WritesModel, WritesRows, WritesRow};
 
-use crate::sorted::{sorted_facts, sorted_pairs};
+use lw_formula::Name;
 use lw_model::Model;
 use std::alloc::{AllocError, Global};
 
@@ -19,12 +19,10 @@ pub fn write_model(
     ensures { OnOk result (WritesModel model.now world out.old.items out.new.items) }
 {
     let worlds = model.worlds();
-    let pairs = sorted_pairs(alloc, model)?;
-    let facts = sorted_facts(alloc, model)?;
     out.extend_from_slice(b"model\n")?;
     write_counted(alloc, b"worlds ", worlds, out)?;
     write_counted(alloc, b"refuted ", world, out)?;
-    write_rows(alloc, worlds, &pairs, &facts, out)?;
+    write_rows(alloc, model, out)?;
     out.extend_from_slice(b"end\n")?;
     Ok(())
 }
@@ -44,72 +42,57 @@ fn write_counted(
     Ok(())
 }
 
-// Writes the line of each world, by the pairs and the facts in order.
-fn write_rows(
-    alloc: Global,
-    worlds: usize,
-    pairs: &[(usize, usize)],
-    facts: &[(usize, Vec<u8>)],
-    out: &mut Vec<u8>,
-) -> Result<(), AllocError>
-    ensures { OnOk result (Writes out.old.items out.new.items (rows_from worlds 0 (rows worlds 0 pairs.now (map shown facts.now)))) }
+// Writes the line of each world.
+fn write_rows(alloc: Global, model: &Model, out: &mut Vec<u8>) -> Result<(), AllocError>
+    requires { IsWellFormed model.now }
+    ensures { OnOk result (WritesRows model.now model.now.worlds out.old.items out.new.items) }
 {
-    let mut pairs = pairs;
-    let mut facts = facts;
-    for world in 0..worlds {
-        out.extend_from_slice(b"world ")?;
-        write_number(alloc, world, out)?;
-        pairs = write_seen(alloc, world, pairs, out)?;
-        facts = write_true(world, facts, out)?;
+    for world in 0..model.worlds() {
+        write_row(alloc, model, world, out)?;
     }
     Ok(())
 }
 
-// Writes the worlds that the world sees, where its pairs come first, and gives the pairs of the later worlds.
-fn write_seen<'a>(
+// Writes the line of the world.
+fn write_row(
     alloc: Global,
+    model: &Model,
     world: usize,
-    pairs: &'a [(usize, usize)],
     out: &mut Vec<u8>,
-) -> Result<&'a [(usize, usize)], AllocError>
-    ensures rest { IfOk result (λ rest. rest.now ≡ beyond world pairs.now) }
-    ensures text { OnOk result ((after : List ℕ) → out.new.items ++ after ≡ out.old.items ++ (codes " sees" ++ numbers (seconds world pairs.now) after)) }
+) -> Result<(), AllocError>
+    requires { IsWellFormed model.now }
+    ensures { OnOk result (WritesRow model.now world out.old.items out.new.items) }
 {
+    out.extend_from_slice(b"world ")?;
+    write_number(alloc, world, out)?;
     out.extend_from_slice(b" sees")?;
-    let mut rest = pairs;
-    while let Some(((from, to), others)) = rest.split_first() {
-        if *from != world {
-            return Ok(rest);
-        }
-        out.push(b' ')?;
-        write_number(alloc, *to, out)?;
-        rest = others;
-    }
-    Ok(rest)
+    write_numbers(alloc, model.successors(world), out)?;
+    out.extend_from_slice(b" true")?;
+    write_names(model.names(world), out)?;
+    out.push(b'\n')?;
+    Ok(())
 }
 
-// Writes the variables that are true at the world, where its facts come first, and ends the line. Gives the facts of the
-// later worlds.
-fn write_true<'a>(
-    world: usize,
-    facts: &'a [(usize, Vec<u8>)],
-    out: &mut Vec<u8>,
-) -> Result<&'a [(usize, Vec<u8>)], AllocError>
-    ensures rest { IfOk result (λ rest. map shown rest.now ≡ beyond world (map shown facts.now)) }
-    ensures text { OnOk result (out.new.items ≡ out.old.items ++ (codes " true" ++ (words (seconds world (map shown facts.now)) ++ 10 ∷ []))) }
+// Writes the numbers, each behind a space.
+fn write_numbers(alloc: Global, all: &[usize], out: &mut Vec<u8>) -> Result<(), AllocError>
+    ensures { OnOk result ((after : List ℕ) → out.new.items ++ after ≡ out.old.items ++ numbers all.now after) }
 {
-    out.extend_from_slice(b" true")?;
-    let mut rest = facts;
-    while let Some(((at, name), others)) = rest.split_first() {
-        if *at != world {
-            break;
-        }
+    for number in all {
         out.push(b' ')?;
-        out.extend_from_slice(name.as_slice())?;
-        rest = others;
+        write_number(alloc, *number, out)?;
     }
-    out.push(b'\n')?;
-    Ok(rest)
+    Ok(())
+}
+
+// Writes the names, each behind a space.
+fn write_names(names: &[Name], out: &mut Vec<u8>) -> Result<(), AllocError>
+    ensures { OnOk result (out.new.items ≡ out.old.items ++ words names.now) }
+{
+    for name in names {
+        out.push(b' ')?;
+        out.extend_from_slice(name.as_bytes())?;
+    }
+    Ok(())
 }
 
 // Writes the number in decimal.

@@ -13,8 +13,7 @@ use Rattle.lw_formula.proofs.Members.{Contains-nil}
 use Rattle.lw_proof.specs.System.{same_signed}
 use Rattle.lw_proof.proofs.Means.{same_signed-Decides}
 use Rattle.lw_closure.specs.Table.{Table, signed_of}
-use Rattle.lw_model.specs.Edits.{with_pair, with_fact}
-use Rattle.lw_model.proofs.Additions.{Sees-with_pair, HasFact-with_fact, facts-with_pair, worlds-with_pair, pairs-with_fact, worlds-with_fact}
+use Rattle.lw_model.specs.Edits.{AddsPair, AddsFact}
 use Rattle.lw_counter.specs.Countermodel.{IsModelOf}
 use Rattle.lw_counter.specs.Fragment.{Fragment, world_at, formulas_of}
 use Rattle.lw_counter.specs.Paths.{IsRelated}
@@ -22,14 +21,14 @@ use Rattle.lw_counter.specs.Relation.{Square, Joins, AddsPairs, AddsFacts, IsSqu
 use Rattle.lw_counter.proofs.Squares.{adds_same, adds_then, adds_as, last_or}
 
 -- one pair
-one_pair : (m : FiniteModel) (v w : ℕ) → AddsPairs m (with_pair m v w) (λ a b. (a ≡ v) × (b ≡ w))
-one_pair m v w = record {
-  worlds = worlds-with_pair m v w;
-  facts = facts-with_pair m v w;
+one_pair : (m k : FiniteModel) (v w : ℕ) → AddsPair m v w k → AddsPairs m k (λ a b. (a ≡ v) × (b ≡ w))
+one_pair m k v w h = record {
+  worlds = h.worlds;
+  facts = h.facts;
   pairs = record {
-    keeps = λ a b x. (Sees-with_pair m v w a b).1 (inl x);
-    adds = λ a b x. (Sees-with_pair m v w a b).1 (inr (sym x.0, sym x.1));
-    only = λ a b x. elim ((Sees-with_pair m v w a b).0 x) [ inl old ↦ inl old | inr new ↦ inr (sym new.0, sym new.1) ];
+    keeps = λ a b x. (h.relation a b).1 (inl x);
+    adds = λ a b x. (h.relation a b).1 (inr (sym x.0, sym x.1));
+    only = λ a b x. elim ((h.relation a b).0 x) [ inl old ↦ inl old | inr new ↦ inr (sym new.0, sym new.1) ];
   };
 }
 
@@ -40,14 +39,12 @@ PairsOfRow s from i w v = (w ≡ from) × (v < i) × Joins s w v
 pub pairs_none : (s : Square) (m : FiniteModel) (from : ℕ) → AddsPairs m m (PairsOfRow s from 0)
 pairs_none s m from = record { worlds = refl; facts = refl; pairs = adds_same (Sees m) (PairsOfRow s from 0) (λ w v x. (let l : v < 0 = x.1 in absurd (omega arith))) }
 
-pub pairs_more : (s : Square) (m k j : FiniteModel) (from i : ℕ) → AddsPairs m k (PairsOfRow s from i) → Joins s from i → j ≡ with_pair k from i → AddsPairs m j (PairsOfRow s from (i + 1))
-pairs_more s m k j from i a there e = subst (λ x. AddsPairs m x (PairsOfRow s from (i + 1))) (sym e) (go (with_pair k from i) (one_pair k from i))
-  where
-    go : (u : FiniteModel) → AddsPairs k u (λ a b. (a ≡ from) × (b ≡ i)) → AddsPairs m u (PairsOfRow s from (i + 1))
-    go u b = record {
+pub pairs_more : (s : Square) (m k j : FiniteModel) (from i : ℕ) → AddsPairs m k (PairsOfRow s from i) → Joins s from i → AddsPair k from i j → AddsPairs m j (PairsOfRow s from (i + 1))
+pairs_more s m k j from i a there h =
+    let b = one_pair k j from i h in record {
       worlds = b.worlds ∙ a.worlds;
       facts = b.facts ∙ a.facts;
-      pairs = adds_then (Sees m) (Sees k) (Sees u) (PairsOfRow s from i) (λ a b. (a ≡ from) × (b ≡ i)) (PairsOfRow s from (i + 1)) a.pairs b.pairs
+      pairs = adds_then (Sees m) (Sees k) (Sees j) (PairsOfRow s from i) (λ a b. (a ≡ from) × (b ≡ i)) (PairsOfRow s from (i + 1)) a.pairs b.pairs
           (λ w v x. (x.0, omega arith, x.2))
           (λ w v x. (x.0, omega arith, subst (Joins s w) (sym x.1) (subst (λ y. Joins s y i) (sym x.0) there)))
           (λ w v x. elim (last_or i v x.1) [ inl l ↦ inl (x.0, l, x.2) | inr q ↦ inr (x.0, q) ]);
@@ -118,26 +115,23 @@ module _ (ts : List Formula) (t : Table) where
     | inr same ↦ inr (ap (signed_of ts t) same ∙ x.2)
   ]
 
-  pub facts_more : (m k j : FiniteModel) (world : ℕ) (label : List ℕ) (i : ℕ) (name : List ℕ) → AddsFacts m k (FactsOf world label i) → i < length label → signed_of ts t (get_or label i 0) ≡ (T, letter name) → j ≡ with_fact k world name → AddsFacts m j (FactsOf world label (i + 1))
-  facts_more m k j world label i name a l says q = record {
-    worlds = ap (λ (x : FiniteModel). x.worlds) q ∙ worlds-with_fact k world name ∙ a.worlds;
-    pairs = ap (λ (x : FiniteModel). x.pairs) q ∙ pairs-with_fact k world name ∙ a.pairs;
+  pub facts_more : (m k j : FiniteModel) (world : ℕ) (label : List ℕ) (i : ℕ) (name : List ℕ) → AddsFacts m k (FactsOf world label i) → i < length label → signed_of ts t (get_or label i 0) ≡ (T, letter name) → AddsFact k world name j → AddsFacts m j (FactsOf world label (i + 1))
+  facts_more m k j world label i name a l says h = record {
+    worlds = h.worlds ∙ a.worlds;
+    pairs = h.pairs ∙ a.pairs;
     facts = record {
-      keeps = λ w p x. to_j w p ((HasFact-with_fact k world name w p).1 (inl (a.facts.keeps w p x)));
+      keeps = λ w p x. (h.relation w p).1 (inl (a.facts.keeps w p x));
       adds = λ w p x. elim (last_item label i l p x.1) [
-        | inl old ↦ to_j w p ((HasFact-with_fact k world name w p).1 (inl (a.facts.adds w p (x.0, old))))
-        | inr new ↦ to_j w p ((HasFact-with_fact k world name w p).1 (inr (sym x.0, same_name p (sym says ∙ new))))
+        | inl old ↦ (h.relation w p).1 (inl (a.facts.adds w p (x.0, old)))
+        | inr new ↦ (h.relation w p).1 (inr (sym x.0, same_name p (sym says ∙ new)))
       ];
-      only = λ w p x. elim ((HasFact-with_fact k world name w p).0 (subst (λ y. HasFact y w p) q x)) [
+      only = λ w p x. elim ((h.relation w p).0 x) [
         | inl old ↦ elim (a.facts.only w p old) [ inl first ↦ inl first | inr new ↦ inr (new.0, more_items label i l p new.1) ]
         | inr new ↦ inr (sym new.0, (get_or label i 0, subst (λ xs. Contains xs (get_or label i 0)) (sym (take_more label i 0 l)) (Contains-push (take i label) (get_or label i 0)), says ∙ ap (λ y. (T, letter y)) new.1))
       ];
     };
   }
     where
-      to_j : (w : ℕ) (p : List ℕ) → HasFact (with_fact k world name) w p → HasFact j w p
-      to_j w p x = subst (λ y. HasFact y w p) (sym q) x
-
       same_name : (p : List ℕ) → ◌≡◌ {A = Signed} (T, letter name) (T, letter p) → name ≡ p
       same_name p r = let s : letter name ≡ letter p = ap (λ (x : Signed). x.1) r in cc
 

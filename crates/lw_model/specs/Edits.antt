@@ -1,20 +1,19 @@
--- What becomes of a model to which a pair or a fact is added, and its pairs and facts by their places.
-use Rattle.std.specs.Prelude.{ℕ, Bool, ◌&&◌, ◌==◌, if◌then◌else◌, List, [], ◌∷◌, ◌++◌}
-use Rattle.std.specs.List.{list_any, slice_index_or}
-use Rattle.lw_formula.specs.FiniteModel.{FiniteModel}
-use Rattle.lw_formula.specs.Truth.{has_fact}
+-- What becomes of a model to which a pair or a fact is added, and its facts by their places.
+use Rattle.std.specs.Prelude.{◌≡◌, ℕ, ◌⊎◌, ◌↔◌, List, []}
+use Rattle.std.specs.List.{slice_index_or}
+use Rattle.lw_formula.specs.FiniteModel.{FiniteModel, Sees, HasFact}
 
--- whether the list of pairs has this one
-abbrev pub has_pair : List (ℕ × ℕ) → ℕ → ℕ → Bool
-has_pair pairs v w = list_any (λ p. (p.0 == v) && (p.1 == w)) pairs
+-- the second model is the first, but that v sees w in it
+pub record AddsPair (m : FiniteModel) (v w : ℕ) (n : FiniteModel) : Type 0 where
+  pub worlds : n.worlds ≡ m.worlds
+  pub facts : n.facts ≡ m.facts
+  pub relation : (a b : ℕ) → Sees n a b ↔ (Sees m a b ⊎ ((v ≡ a) × (w ≡ b)))
 
--- the model as it is where v sees w, and else with this pair behind the others
-abbrev pub with_pair : FiniteModel → ℕ → ℕ → FiniteModel
-with_pair m v w = if has_pair m.pairs v w then m else record m { pairs = m.pairs ++ (v, w) ∷ [] }
-
--- the model as it is where p is true at w, and else with this fact behind the others
-abbrev pub with_fact : FiniteModel → ℕ → List ℕ → FiniteModel
-with_fact m w p = if has_fact m.facts w p then m else record m { facts = m.facts ++ (w, p) ∷ [] }
+-- the second model is the first, but that p is true at w in it
+pub record AddsFact (m : FiniteModel) (w : ℕ) (p : List ℕ) (n : FiniteModel) : Type 0 where
+  pub worlds : n.worlds ≡ m.worlds
+  pub pairs : n.pairs ≡ m.pairs
+  pub relation : (v : ℕ) (q : List ℕ) → HasFact n v q ↔ (HasFact m v q ⊎ ((w ≡ v) × (p ≡ q)))
 
 -- the i-th fact, from 0
 abbrev pub fact_at : FiniteModel → ℕ → ℕ × List ℕ

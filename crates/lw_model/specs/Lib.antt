@@ -1,4 +1,5 @@
 pub mod Edits
+pub mod Ordered
 pub mod Bounds
 pub mod Cover
 pub mod Table

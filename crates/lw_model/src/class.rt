@@ -1,14 +1,15 @@
-ghost use Rattle.std.specs.Prelude.{◌≡◌, ◌⊎◌, ◌↔◌, IsTrue};
+ghost use Rattle.std.specs.Prelude.{◌≡◌, ℕ, ◌⊎◌, ◌↔◌, IsTrue};
 ghost use Rattle.lw_formula.specs.FiniteModel.{Sees};
 ghost use Rattle.lw_formula.specs.Class.{Class, HasFrame, IsReflexive, IsIrreflexive, IsTransitive, IsSymmetric, IsAntisymmetric};
-ghost use Rattle.lw_model.specs.Cover.{IsCovered, SeesAllOf};
+ghost use Rattle.lw_model.specs.Cover.{IsCovered, Passes, SeesAllOf};
 
 use crate::model::Model;
 use lw_formula::Logic;
 
-/// Whether the model is of the logic's class. It takes no memory. The work is at most the number of the model's pairs
-/// times that of its worlds; of a chain whose pairs stand in ascending order it is one look-up for each pair, and a round
-/// or two of the worlds for each world.
+/// Whether the model is of the logic's class. It takes no memory. The work is a few rounds of the model's worlds and pairs,
+/// with a look-up for each, by halves of one world's list, and, where transitivity is asked for, at most one more look-up for
+/// each pair and each world that its second world sees. In a chain one such list is looked up for each world, and where each
+/// world sees each, two.
 pub fn in_class(model: &Model, logic: Logic) -> bool
     ensures { IsTrue result ↔ Class logic model.now }
 {
@@ -49,25 +50,54 @@ fn is_reflexive(model: &Model) -> bool
 fn is_irreflexive(model: &Model) -> bool
     ensures { IsTrue result ↔ IsIrreflexive model.now }
 {
-    model.pairs().iter().all(|(from, to)| *from != *to)
+    for world in 0..model.end_of_pairs() {
+        if model.sees(world, world) {
+            return false;
+        }
+    }
+    true
 }
 
 fn is_symmetric(model: &Model) -> bool
     ensures { IsTrue result ↔ IsSymmetric model.now }
 {
+    for world in 0..model.end_of_pairs() {
+        if !is_seen_back(model, world) {
+            return false;
+        }
+    }
+    true
+}
+
+// Whether each world that this one sees sees it.
+fn is_seen_back(model: &Model, from: usize) -> bool
+    ensures { IsTrue result ↔ ((w : ℕ) → Sees model.now from w → Sees model.now w from) }
+{
     model
-        .pairs()
+        .successors(from)
         .iter()
-        .all(|(from, to)| model.sees(*to, *from))
+        .all(|to| model.sees(*to, from))
 }
 
 fn is_antisymmetric(model: &Model) -> bool
     ensures { IsTrue result ↔ IsAntisymmetric model.now }
 {
+    for world in 0..model.end_of_pairs() {
+        if !is_seen_back_by_itself_alone(model, world) {
+            return false;
+        }
+    }
+    true
+}
+
+// Whether no other world that this one sees sees it.
+fn is_seen_back_by_itself_alone(model: &Model, from: usize) -> bool
+    ensures { IsTrue result ↔ ((w : ℕ) → Sees model.now from w → Sees model.now w from → from ≡ w) }
+{
     model
-        .pairs()
+        .successors(from)
         .iter()
-        .all(|(from, to)| are_same_if_seen(model, *from, *to))
+        .all(|to| are_same_if_seen(model, from, *to))
 }
 
 // Whether the worlds are one where the second sees the first.
@@ -77,35 +107,48 @@ fn are_same_if_seen(model: &Model, from: usize, to: usize) -> bool
     from == to || !model.sees(to, from)
 }
 
-// Whether a sees all that b sees, for each pair (a, b). No test is needed where (a, c) stands just before it, c > a and
-// c sees b: then a sees all that c sees, and c all that b sees. So a pair leans on an earlier one of the same world and on
-// one of a later world, and never on itself.
+// Whether a sees all that b sees, for each pair (a, b). No test is needed where c stands just before b among those that a
+// sees, c sees b, and c > a or b <= a: then a sees all that c sees, and c all that b sees. There is no circle in this. A
+// pair with b > a leans, as c > a, on an earlier one of the same world and on one of a later world, and both lead upwards
+// too. One with b <= a leans on an earlier one of the same world, with c < b <= a, and on one that leads upwards, from c.
 fn is_transitive(model: &Model) -> bool
     ensures { IsTrue result ↔ IsTransitive model.now }
 {
-    let mut before = None;
-    for (from, to) in model.pairs() {
-        if !passes(model, before, *from, *to) {
+    for world in 0..model.end_of_pairs() {
+        if !row_passes(model, world) {
             return false;
         }
-        before = Some((*from, *to));
     }
     true
 }
 
-// Whether the pair before this one covers it, or its first world sees all that its second sees.
-fn passes(model: &Model, before: Option<(usize, usize)>, from: usize, to: usize) -> bool
+// Whether each pair of this world is covered or tested. It is true where the relation is transitive.
+fn row_passes(model: &Model, from: usize) -> bool
+    ensures passes { IsTrue result → (w : ℕ) → Sees model.now from w → Passes model.now from w }
+    ensures needed { IsTransitive model.now → IsTrue result }
+{
+    let mut before = None;
+    for to in model.successors(from) {
+        if !passes(model, before, from, *to) {
+            return false;
+        }
+        before = Some(*to);
+    }
+    true
+}
+
+// Whether the world before the second one covers the pair, or the first world sees all that the second sees.
+fn passes(model: &Model, before: Option<usize>, from: usize, to: usize) -> bool
     ensures { IsTrue result ↔ (IsCovered model.now before from to ⊎ SeesAllOf model.now from to) }
 {
     is_covered(model, before, from, to) || sees_all_of(model, from, to)
 }
 
-// Whether the pair before this one is of the same world, and of a later one that sees this pair's second.
-fn is_covered(model: &Model, before: Option<(usize, usize)>, from: usize, to: usize) -> bool
+fn is_covered(model: &Model, before: Option<usize>, from: usize, to: usize) -> bool
     ensures { IsTrue result ↔ IsCovered model.now before from to }
 {
     match before {
-        Some((first, through)) => first == from && through > from && model.sees(through, to),
+        Some(through) => model.sees(through, to) && (through > from || to <= from),
         None => false,
     }
 }
@@ -114,12 +157,10 @@ fn is_covered(model: &Model, before: Option<(usize, usize)>, from: usize, to: us
 fn sees_all_of(model: &Model, from: usize, to: usize) -> bool
     ensures { IsTrue result ↔ SeesAllOf model.now from to }
 {
-    for world in 0..model.worlds() {
-        if model.sees(to, world) && !model.sees(from, world) {
-            return false;
-        }
-    }
-    true
+    model
+        .successors(to)
+        .iter()
+        .all(|world| model.sees(from, *world))
 }
 
 #[cfg(test)]
@@ -183,6 +224,23 @@ mod tests {
             needs_all_but_neighbours(&rt, &pairs, logic)?;
             pairs.reverse();
             needs_all_but_neighbours(&rt, &pairs, logic)?;
+        }
+        Ok(())
+    }
+
+    // Where one world doesn't see another, each third stands between the two.
+    #[test]
+    fn where_all_see_all_no_pair_can_be_left_out(rt: HostRuntime) -> Result<(), Fail> {
+        let mut pairs = Vec::new(rt.alloc());
+        for from in 0..5 {
+            for to in 0..5 {
+                pairs.push((from, to))?;
+            }
+        }
+        assert!(rt; in_class(&model_without(rt.alloc(), &pairs, None)?, Logic::S5));
+        for pair in &pairs {
+            let model = model_without(rt.alloc(), &pairs, Some(*pair))?;
+            assert!(rt; !is_transitive(&model), "without {pair:?}");
         }
         Ok(())
     }

@@ -2,7 +2,10 @@
 #![tactic(auto)]
 
 mod class;
+mod item;
 mod model;
+mod ordered_list;
+mod ordered_rows;
 mod row;
 mod truth;
 

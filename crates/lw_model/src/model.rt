@@ -1,9 +1,12 @@
-ghost use Rattle.std.specs.Prelude.{◌≡◌, ◌<◌, ◌≤◌, ◌↔◌, [], length, IsTrue, IfOk, OnOk, OnErr};
+ghost use Rattle.std.specs.Prelude.{◌≡◌, ℕ, ◌<◌, ◌≤◌, ◌↔◌, List, [], length, All, Contains, IsTrue, IfOk, OnOk, OnErr};
+ghost use Rattle.std.specs.Ordering.{nat_cmp};
+ghost use Rattle.std.specs.Cmp.Lexicographic.{slice_cmp};
+ghost use Rattle.std.specs.List.Sorted.{IsStrictlySortedBy};
 ghost use Rattle.lw_formula.specs.FiniteModel.{IsWellFormed, Sees, HasFact};
-ghost use Rattle.lw_formula.specs.Truth.{has_fact};
-ghost use Rattle.lw_model.specs.Edits.{with_pair, with_fact, fact_at};
+ghost use Rattle.lw_formula.specs.Name.{is_name};
+ghost use Rattle.lw_model.specs.Edits.{AddsPair, AddsFact, fact_at};
 
-use indexmap::IndexSet;
+use crate::ordered_rows::OrderedRows;
 use lw_formula::Name;
 use std::alloc::{AllocError, Global};
 
@@ -12,8 +15,8 @@ use std::alloc::{AllocError, Global};
 #[derive(Debug, Drop)]
 pub struct Model {
     worlds: usize,
-    pairs: IndexSet<(usize, usize)>,
-    facts: Vec<(usize, Name)>,
+    pairs: OrderedRows<usize>,
+    facts: OrderedRows<Name>,
 }
 
 impl std::marker::Model for Model {
@@ -21,9 +24,9 @@ impl std::marker::Model for Model {
 
     ghost Value = { FiniteModel };
 
-    ghost view = { λ m. record { worlds = m.worlds; pairs = m.pairs.keys; facts = m.facts.items } };
+    ghost view = { λ m. record { worlds = m.worlds; pairs = m.pairs; facts = m.facts } };
 
-    ghost invariant = { λ m. IsWellFormed (record { worlds = m.worlds; pairs = m.pairs.keys; facts = m.facts.items }) };
+    ghost invariant = { λ m. IsWellFormed (record { worlds = m.worlds; pairs = m.pairs; facts = m.facts }) };
 }
 
 impl Model {
@@ -34,8 +37,8 @@ impl Model {
     {
         Ok(Model {
             worlds,
-            pairs: IndexSet::new(alloc),
-            facts: Vec::new(alloc),
+            pairs: OrderedRows::new(alloc),
+            facts: OrderedRows::new(alloc),
         })
     }
 
@@ -44,26 +47,24 @@ impl Model {
     pub fn add_pair(&mut self, from: usize, to: usize) -> Result<(), AllocError>
         requires from { from < self.old.worlds }
         requires to { to < self.old.worlds }
-        ensures added { OnOk result (self.new ≡ with_pair self.old from to) }
+        ensures added { OnOk result (AddsPair self.old from to self.new) }
+        ensures same { OnOk result (Sees self.old from to → self.new ≡ self.old) }
         ensures failed { OnErr result (self.new ≡ self.old) }
         ensures absent { OnErr result (¬ Sees self.old from to) }
     {
-        self.pairs.insert((from, to))?;
-        Ok(())
+        self.pairs.add(from, &to)
     }
 
     /// Makes a variable true at a world; nothing changes where it is already. It fails for want of memory alone, and
     /// then the model is as before.
     pub fn add_fact(&mut self, world: usize, name: &Name) -> Result<(), AllocError>
         requires { world < self.old.worlds }
-        ensures added { OnOk result (self.new ≡ with_fact self.old world name.now) }
+        ensures added { OnOk result (AddsFact self.old world name.now self.new) }
+        ensures same { OnOk result (HasFact self.old world name.now → self.new ≡ self.old) }
         ensures failed { OnErr result (self.new ≡ self.old) }
         ensures absent { OnErr result (¬ HasFact self.old world name.now) }
     {
-        if !has_fact(&self.facts, world, name) {
-            self.facts.push((world, name.try_clone()?))?;
-        }
-        Ok(())
+        self.facts.add(world, name)
     }
 
     /// How many worlds there are, at least 1. The worlds are the numbers below.
@@ -78,21 +79,38 @@ impl Model {
     pub fn sees(&self, from: usize, to: usize) -> bool
         ensures { IsTrue result ↔ Sees self.now from to }
     {
-        self.pairs.contains(&(from, to))
+        self.pairs.has(from, &to)
     }
 
-    /// The pairs of a world and one that it sees, each once, in the order in which they were added.
-    pub fn pairs(&self) -> &[(usize, usize)]
-        ensures { result.now ≡ self.now.pairs }
+    /// The worlds that this world sees, in ascending order, each once.
+    pub fn successors(&self, world: usize) -> &[usize]
+        ensures exact { (w : ℕ) → Contains result.now w ↔ Sees self.now world w }
+        ensures ordered { IsStrictlySortedBy nat_cmp result.now }
     {
-        self.pairs.as_slice()
+        self.pairs.row(world)
+    }
+
+    /// Each world that sees any is below this number.
+    pub(crate) fn end_of_pairs(&self) -> usize
+        ensures { (v w : ℕ) → Sees self.now v w → v < result }
+    {
+        self.pairs.end()
     }
 
     /// Whether a variable is true at a world.
     pub fn fact(&self, world: usize, name: &Name) -> bool
         ensures { IsTrue result ↔ HasFact self.now world name.now }
     {
-        has_fact(&self.facts, world, name)
+        self.facts.has(world, name)
+    }
+
+    /// The variables that are true at this world, in the order of their names' bytes, each once.
+    pub fn names(&self, world: usize) -> &[Name]
+        ensures exact { (p : List ℕ) → Contains result.now p ↔ HasFact self.now world p }
+        ensures ordered { IsStrictlySortedBy (slice_cmp nat_cmp) result.now }
+        ensures named { All (λ p. IsTrue (is_name p)) result.now }
+    {
+        self.facts.row(world)
     }
 
     /// How many facts there are: pairs of a world and a variable that is true there, each once.
@@ -102,63 +120,39 @@ impl Model {
         self.facts.len()
     }
 
-    /// The world of the i-th fact, from 0, in the order in which they were added.
+    /// The world of the i-th fact, from 0, in the order of the worlds, and at a world of their names' bytes. It walks the
+    /// worlds up to that one.
     pub fn fact_world(&self, i: usize) -> usize
         requires { i < length self.now.facts }
         ensures { result ≡ (fact_at self.now i).0 }
     {
-        self.facts[i].0
+        self.facts.number_of(i)
     }
 
-    /// The variable of the i-th fact, from 0, in the order in which they were added.
+    /// The variable of the i-th fact, from 0, in the order of the worlds, and at a world of their names' bytes. It walks
+    /// the worlds up to that one.
     pub fn fact_name(&self, i: usize) -> &Name
         requires { i < length self.now.facts }
         ensures { result.now ≡ (fact_at self.now i).1 }
     {
-        &self.facts[i].1
-    }
-
-    /// The facts, as pairs of a world and a variable that is true there.
-    pub(crate) fn facts(&self) -> &[(usize, Name)]
-        ensures { result.now ≡ self.now.facts }
-    {
-        &self.facts
+        self.facts.item(i)
     }
 
     /// The memory that the model is kept in.
     pub(crate) fn allocator(&self) -> Global {
-        *self.facts.allocator()
+        self.facts.allocator()
     }
 
     /// A second model that is equal to this one. It fails for want of memory alone.
     pub fn try_clone(&self) -> Result<Model, AllocError>
         ensures { IfOk result (λ m. m ≡ self.now) }
     {
-        let alloc = *self.facts.allocator();
         Ok(Model {
             worlds: self.worlds,
-            pairs: self.pairs.clone()?,
-            facts: clone_of(alloc, &self.facts)?,
+            pairs: self.pairs.try_clone()?,
+            facts: self.facts.try_clone()?,
         })
     }
-}
-
-// Whether this variable is true at this world.
-fn has_fact(facts: &[(usize, Name)], world: usize, name: &Name) -> bool
-    ensures { result ≡ has_fact facts.now world name.now }
-{
-    facts.iter().any(|(at, own)| *at == world && own == name)
-}
-
-// A second list of the same facts.
-fn clone_of(alloc: Global, facts: &[(usize, Name)]) -> Result<Vec<(usize, Name)>, AllocError>
-    ensures { IfOk result (λ copy. copy.items ≡ facts.now) }
-{
-    let mut copy = Vec::with_capacity(alloc, facts.len())?;
-    for (world, name) in facts {
-        copy.push((*world, name.try_clone()?))?;
-    }
-    Ok(copy)
 }
 
 #[cfg(test)]
@@ -178,7 +172,8 @@ mod tests {
         model.add_fact(1, &name)?;
         let second = model.try_clone()?;
         assert_eq!(rt; second.worlds(), 2);
-        assert_eq!(rt; second.pairs(), [(0, 1)].as_slice());
+        assert_eq!(rt; second.successors(0), [1].as_slice());
+        assert_eq!(rt; second.successors(1).len(), 0);
         assert_eq!(rt; second.fact_count(), 1);
         assert_eq!(rt; second.fact_world(0), 1);
         assert_eq!(rt; second.fact_name(0).as_bytes(), b"p".as_slice());
@@ -196,6 +191,69 @@ mod tests {
         model.add_pair(1, 1)?;
         assert!(rt; in_class(&model, Logic::Grz));
         assert!(rt; !in_class(&model, Logic::S5));
+        Ok(())
+    }
+
+    // Each order of adding three, and one of them twice.
+    const ORDERS: [[usize; 4]; 6] = [
+        [0, 1, 2, 0],
+        [0, 2, 1, 2],
+        [1, 0, 2, 1],
+        [1, 2, 0, 0],
+        [2, 0, 1, 2],
+        [2, 1, 0, 1],
+    ];
+
+    // A model of four worlds, of which the third sees the first three, added in this order.
+    fn seeing(alloc: Global, order: &[usize]) -> Result<Model, Fail> {
+        let mut model = Model::new(alloc, 4)?;
+        for to in order {
+            if 2 < model.worlds() && *to < model.worlds() {
+                model.add_pair(2, *to)?;
+            }
+        }
+        Ok(model)
+    }
+
+    #[test]
+    fn successors_ascend_in_whatever_order_they_are_added(rt: HostRuntime) -> Result<(), Fail> {
+        for order in &ORDERS {
+            let model = seeing(rt.alloc(), order)?;
+            assert_eq!(rt; model.successors(2), [0, 1, 2].as_slice());
+            assert_eq!(rt; model.successors(3).len(), 0);
+        }
+        Ok(())
+    }
+
+    // A model with `a` true at the fourth world and `p`, `p1` and `q` at the second, added in this order.
+    fn named(alloc: Global, order: &[usize]) -> Result<Model, Fail> {
+        let mut model = Model::new(alloc, 4)?;
+        model.add_fact(3, &Name::from_bytes(alloc, b"a")?)?;
+        for i in order {
+            let bytes: &[u8] = match *i {
+                0 => b"p",
+                1 => b"p1",
+                _ => b"q",
+            };
+            if 1 < model.worlds() {
+                model.add_fact(1, &Name::from_bytes(alloc, bytes)?)?;
+            }
+        }
+        Ok(model)
+    }
+
+    #[test]
+    fn names_ascend_in_whatever_order_they_are_added(rt: HostRuntime) -> Result<(), Fail> {
+        for order in &ORDERS {
+            let model = named(rt.alloc(), order)?;
+            assert_eq!(rt; model.names(1).len(), 3);
+            assert_eq!(rt; model.fact_count(), 4);
+            assert_eq!(rt; model.fact_name(0).as_bytes(), b"p".as_slice());
+            assert_eq!(rt; model.fact_name(1).as_bytes(), b"p1".as_slice());
+            assert_eq!(rt; model.fact_name(2).as_bytes(), b"q".as_slice());
+            assert_eq!(rt; model.fact_world(2), 1);
+            assert_eq!(rt; model.fact_world(3), 3);
+        }
         Ok(())
     }
 }

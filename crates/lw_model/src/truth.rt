@@ -1,4 +1,5 @@
-ghost use Rattle.std.specs.Prelude.{◌≡◌, ◌<◌, ◌↔◌, List, length, All, IsTrue, IfOk};
+ghost use Rattle.std.specs.Prelude.{◌≡◌, ℕ, ◌<◌, ◌↔◌, false, List, length, All, Contains, IsTrue, IfOk};
+ghost use Rattle.std.specs.List.{slice_index_or};
 ghost use Rattle.lw_formula.specs.Formula.{Formula, letter, neg, nec, poss};
 ghost use Rattle.lw_formula.specs.Truth.{IsTrueAt};
 ghost use Rattle.lw_pool.specs.Region.{tree_at, IsLive, AreChildrenBelow, tree_of_node};
@@ -11,7 +12,8 @@ use lw_pool::{FormId, Node, Pool};
 use std::alloc::AllocError;
 
 /// Whether the pool's formula is true at the world. It fails for want of memory alone. The work is at most the number of
-/// the pool's formulas up to this one, times the number of the model's worlds, pairs and facts.
+/// the pool's formulas up to this one, times the number of the model's worlds and pairs, with a look-up by halves of each
+/// world's variables for a variable.
 pub fn holds(model: &Model, world: usize, pool: &Pool, id: FormId) -> Result<bool, AllocError>
     requires world { world < model.now.worlds }
     requires live { IsLive pool.now id }
@@ -61,9 +63,8 @@ fn letter_row(model: &Model, name: &Name) -> Result<Row, AllocError>
     ensures truth { IfOk result (IsRow model.now (letter name.now)) }
 {
     let mut row = Row::new(model.allocator(), model.worlds(), false)?;
-    for (world, own) in model.facts() {
-        let holds = row.at(*world) || own == name;
-        row.set(*world, holds);
+    for world in 0..model.worlds() {
+        row.set(world, model.fact(world, name));
     }
     Ok(row)
 }
@@ -116,9 +117,8 @@ fn box_row(model: &Model, of: &Row) -> Result<Row, AllocError>
     ensures truth { IfOk result (λ row. (a : Formula) → IsRow model.now a of.now → IsRow model.now (nec a) row) }
 {
     let mut row = Row::new(model.allocator(), model.worlds(), true)?;
-    for (from, to) in model.pairs() {
-        let holds = row.at(*from) && of.at(*to);
-        row.set(*from, holds);
+    for world in 0..model.worlds() {
+        row.set(world, is_true_at_all(of, model.successors(world)));
     }
     Ok(row)
 }
@@ -130,11 +130,34 @@ fn dia_row(model: &Model, of: &Row) -> Result<Row, AllocError>
     ensures truth { IfOk result (λ row. (a : Formula) → IsRow model.now a of.now → IsRow model.now (poss a) row) }
 {
     let mut row = Row::new(model.allocator(), model.worlds(), false)?;
-    for (from, to) in model.pairs() {
-        let holds = row.at(*from) || of.at(*to);
-        row.set(*from, holds);
+    for world in 0..model.worlds() {
+        row.set(world, is_true_at_some(of, model.successors(world)));
     }
     Ok(row)
+}
+
+fn is_true_at_all(of: &Row, worlds: &[usize]) -> bool
+    requires { All (λ w. w < length of.now) worlds.now }
+    ensures { IsTrue result ↔ ((w : ℕ) → Contains worlds.now w → IsTrue (slice_index_or of.now w false)) }
+{
+    for world in worlds {
+        if !of.at(*world) {
+            return false;
+        }
+    }
+    true
+}
+
+fn is_true_at_some(of: &Row, worlds: &[usize]) -> bool
+    requires { All (λ w. w < length of.now) worlds.now }
+    ensures { IsTrue result ↔ ((w : ℕ) × Contains worlds.now w × IsTrue (slice_index_or of.now w false)) }
+{
+    for world in worlds {
+        if of.at(*world) {
+            return true;
+        }
+    }
+    false
 }
 
 #[cfg(test)]

@@ -35,6 +35,19 @@ world 2 sees true
 end
 ";
 
+// At world 2 `p` is true, and at worlds 0 and 1, which it sees, it isn't.
+const BOX_P_AT_THE_LAST: &[u8] = b"certificate 1
+logic k
+formula p -> box p
+model
+worlds 3
+refuted 2
+world 0 sees 0 1 true q r
+world 1 sees true
+world 2 sees 0 1 2 true p p1 q
+end
+";
+
 // The id of the node's formula.
 fn put(pool: &mut Pool, node: Node) -> Result<FormId, AllocError>
     requires { AreChildrenBelow (length pool.old) node }
@@ -119,8 +132,27 @@ fn unordered(alloc: Global) -> Result<Model, Fail>
     Ok(model)
 }
 
-// `p -> box p` in K with that model.
-fn refuted(alloc: Global, pool: &mut Pool) -> Result<Certificate, Fail>
+// A model of three worlds, whose pairs and facts are added in falling order.
+fn falling(alloc: Global) -> Result<Model, Fail>
+    ensures { IfOk result (λ model. model.worlds ≡ 3) }
+{
+    let mut model = Model::new(alloc, 3)?;
+    link(&mut model, 2, 2)?;
+    link(&mut model, 2, 1)?;
+    link(&mut model, 2, 0)?;
+    link(&mut model, 0, 1)?;
+    link(&mut model, 0, 0)?;
+    mark(alloc, &mut model, 2, b"q")?;
+    mark(alloc, &mut model, 2, b"p1")?;
+    mark(alloc, &mut model, 2, b"p")?;
+    mark(alloc, &mut model, 0, b"r")?;
+    mark(alloc, &mut model, 0, b"q")?;
+    Ok(model)
+}
+
+// `p -> box p` in K with the model, which is to refute it at the world.
+fn refuted(alloc: Global, pool: &mut Pool, model: Model, world: usize) -> Result<Certificate, Fail>
+    requires { world < model.worlds }
     ensures { IfOk result (IsCertificateLive pool.new) }
 {
     let p = put(pool, Node::Var(Name::from_bytes(alloc, b"p")?))?;
@@ -129,7 +161,7 @@ fn refuted(alloc: Global, pool: &mut Pool) -> Result<Certificate, Fail>
     Ok(Certificate {
         logic: Logic::K,
         formula,
-        body: Body::Refuted(unordered(alloc)?, 1),
+        body: Body::Refuted(model, world),
     })
 }
 
@@ -155,9 +187,19 @@ fn a_proof_is_written_step_by_step(rt: HostRuntime) -> Result<(), Fail> {
 fn the_rows_of_a_model_are_written_in_order(rt: HostRuntime) -> Result<(), Fail> {
     let alloc = rt.alloc();
     let mut pool = Pool::new(alloc);
-    let certificate = refuted(alloc, &mut pool)?;
+    let certificate = refuted(alloc, &mut pool, unordered(alloc)?, 1)?;
     let text = certificate_text(alloc, &pool, &certificate)?;
     assert_eq!(rt; text.as_slice(), BOX_P);
+    Ok(())
+}
+
+#[test]
+fn what_is_added_in_falling_order_is_written_in_rising_order(rt: HostRuntime) -> Result<(), Fail> {
+    let alloc = rt.alloc();
+    let mut pool = Pool::new(alloc);
+    let certificate = refuted(alloc, &mut pool, falling(alloc)?, 2)?;
+    let text = certificate_text(alloc, &pool, &certificate)?;
+    assert_eq!(rt; text.as_slice(), BOX_P_AT_THE_LAST);
     Ok(())
 }
 
@@ -166,6 +208,7 @@ fn what_is_read_is_written_as_it_was(rt: HostRuntime) -> Result<(), Fail> {
     let alloc = rt.alloc();
     assert!(rt; reads_back(alloc, BOX_P_IMPLIES_P)?);
     assert!(rt; reads_back(alloc, BOX_P)?);
+    assert!(rt; reads_back(alloc, BOX_P_AT_THE_LAST)?);
     Ok(())
 }
 

@@ -1,9 +1,9 @@
-use Rattle.std.proofs.Common.{◌≡◌, ◌∙◌, sym, subst, ap, IsTrue}
+use Rattle.std.proofs.Common.{◌≡◌, ◌∙◌, sym, subst, IsTrue}
 use Rattle.std.specs.Ordering.{nat_cmp}
 use Rattle.std.specs.Cmp.Lexicographic.{slice_cmp}
 use Rattle.std.specs.declared.cmp.Ordering.TheVariants.{Less}
 use Rattle.lw_formula.specs.Name.{is_name}
-use Rattle.lw_model.specs.Edits.{with_fact}
+use Rattle.lw_model.specs.Edits.{AddsFact}
 use Rattle.lw_cert.proofs.Wording.{is-err-of, not-false}
 use Rattle.lw_cert.proofs.Reading.{named-none, named-more, names-refused, names-end}
 use Rattle.lw_cert.proofs.row.read_names.Goals as goal
@@ -28,7 +28,7 @@ loop-word-preserved c =
     named-more c.args.world c.args.bytes.now c.loop-word.rest.now c.loop-word.last.now c.in-Some.word.now c.in-Some.next.now c.args.model.now c.loop-word.model c.add_fact.new.self c.loop-word.invariant c.in-Some.ensures
     (subst (λ p. IsTrue (is_name p)) c.in-Ok.ensures.ok c.as_bytes.ensures.name)
     (subst (λ w. slice_cmp nat_cmp c.loop-word.last.now w ≡ Less) word (c.is_before.ensures.0 c.if-not-is_before.false))
-    (c.in_ok-add_fact.ensures.added ∙ ap (λ p. with_fact c.loop-word.model c.args.world p) c.in-Ok.ensures.ok)
+    (subst (λ p. AddsFact c.loop-word.model c.args.world p c.add_fact.new.self) c.in-Ok.ensures.ok c.in_ok-add_fact.ensures.added)
 
 pub returns : goal.returns
 returns c = names-end c.is_empty.result c.args.world c.args.bytes.now c.loop-word.rest.now c.loop-word.last.now c.args.model.now c.loop-word.model c.is_empty.ensures c.loop-word.invariant c.in_default.ensures

@@ -1,13 +1,12 @@
-use Rattle.std.proofs.Common.{rules, ◌≡◌, tests}
-use Rattle.std.proofs.lemmas.Iterator.{cases_from_all, YieldsList-from_slice}
-use Rattle.lw_formula.specs.FiniteModel.{Sees}
-use Rattle.lw_model.proofs.Frames.{iff_from_cases}
+use Rattle.std.proofs.Common.{◌<◌, below_more, refl, arith}
+use Rattle.std.proofs.lemmas.Bool.{false≢true}
 use Rattle.lw_model.proofs.class.is_antisymmetric.Goals as goal
 
+pub returns-then-not-is_seen_back_by_itself_alone : goal.returns-then-not-is_seen_back_by_itself_alone
+returns-then-not-is_seen_back_by_itself_alone c = (λ e. absurd (false≢true e), λ h. c.if-not-is_seen_back_by_itself_alone.ensures.1 (λ w s. h c.loop-world.world w s))
+
+pub loop-world-preserved : goal.loop-world-preserved
+loop-world-preserved c = below_more _ _ c.loop-world.invariant (c.if-not-is_seen_back_by_itself_alone.ensures.0 refl)
+
 pub returns : goal.returns
-returns c =
-    let m = c.args.model.now in
-    iff_from_cases m (λ v w. Sees m w v → v ≡ w) c.all.result
-    (cases_from_all _ _ _ (λ p. Sees m p.1 p.0 → p.0 ≡ p.1) (λ p. ¬ (Sees m p.1 p.0 → p.0 ≡ p.1)) c.all.ensures.ran (YieldsList-from_slice m.pairs cc)
-    (λ x q k. search (rules, tests))
-    (λ x q k. search (rules, tests)))
+returns c = (λ t v w s. let within : v < c.end_of_pairs-world-end.result = c.end_of_pairs-world-end.ensures v w s in c.loop-world.invariant v (omega arith) w s, λ h. refl)

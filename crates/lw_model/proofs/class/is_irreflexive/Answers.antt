@@ -1,16 +1,12 @@
-use Rattle.std.proofs.Common.{rules, ◌≢◌, refl, subst, tests}
-use Rattle.std.proofs.lemmas.Iterator.{cases_from_all, YieldsList-from_slice}
-use Rattle.lw_formula.specs.FiniteModel.{Sees}
-use Rattle.lw_model.proofs.Frames.{iff_from_cases}
+use Rattle.std.proofs.Common.{◌<◌, below_more, refl, arith}
+use Rattle.std.proofs.lemmas.Bool.{false≢true}
 use Rattle.lw_model.proofs.class.is_irreflexive.Goals as goal
 
+pub returns-then-sees : goal.returns-then-sees
+returns-then-sees c = (λ e. absurd (false≢true e), λ h. absurd (h c.loop-world.world (c.if-sees.ensures.0 refl)))
+
+pub loop-world-preserved : goal.loop-world-preserved
+loop-world-preserved c = below_more _ _ c.loop-world.invariant (λ s. false≢true (c.if-sees.ensures.1 s))
+
 pub returns : goal.returns
-returns c =
-    let m = c.args.model.now in
-    let apart =
-    iff_from_cases m (λ v w. v ≢ w) c.all.result
-    (cases_from_all _ _ _ (λ p. p.0 ≢ p.1) (λ p. ¬ (p.0 ≢ p.1)) c.all.ensures.ran (YieldsList-from_slice m.pairs cc)
-    (λ x q k. search (rules, tests))
-    (λ x q k. search (rules, tests)))
-    in
-    (λ t w s. apart.0 t w w s refl, λ none. apart.1 (λ v w s e. none w (subst (λ u. Sees m u w) e s)))
+returns c = (λ t w s. let within : w < c.end_of_pairs-world-end.result = c.end_of_pairs-world-end.ensures w w s in c.loop-world.invariant w (omega arith) s, λ h. refl)

@@ -1,6 +1,7 @@
-use Rattle.std.proofs.Common.{◌≡◌, false, get_or, take}
-use Rattle.lw_model.proofs.Rows.{IsAnyRow}
+use Rattle.std.proofs.Common.{◌≡◌, ℕ, ◌<◌, false, length, get_or, IsTrue}
+use Rattle.std.specs.Bool.{Decides}
+use Rattle.lw_formula.specs.FiniteModel.{Sees}
 use Rattle.lw_model.proofs.truth.dia_row.Given as goal
 
-abbrev pub invariant-loop-from : goal.invariant-loop-from
-invariant-loop-from l = (l.from-items ≡ l.model.pairs) × IsAnyRow l.model.worlds (λ v. get_or l.of v false) (take l.from-index l.from-items) l.row
+abbrev pub invariant-loop-world : goal.invariant-loop-world
+invariant-loop-world l = (length l.row ≡ l.model.worlds) × ((w : ℕ) → w < l.world → Decides (get_or l.row w false) ((v : ℕ) × Sees l.model w v × IsTrue (get_or l.of v false)))

@@ -1,7 +1,7 @@
-use Rattle.std.proofs.Common.{◌≡◌, take}
-use Rattle.std.specs.Str.{bytes_eq}
-use Rattle.lw_model.proofs.Rows.{IsAnyRow}
+use Rattle.std.proofs.Common.{◌≡◌, ℕ, ◌<◌, false, length, get_or}
+use Rattle.std.specs.Bool.{Decides}
+use Rattle.lw_formula.specs.FiniteModel.{HasFact}
 use Rattle.lw_model.proofs.truth.letter_row.Given as goal
 
 abbrev pub invariant-loop-world : goal.invariant-loop-world
-invariant-loop-world l = (l.world-items ≡ l.model.facts) × IsAnyRow l.model.worlds (λ q. bytes_eq q l.name) (take l.world-index l.world-items) l.row
+invariant-loop-world l = (length l.row ≡ l.model.worlds) × ((w : ℕ) → w < l.world → Decides (get_or l.row w false) (HasFact l.model w l.name))

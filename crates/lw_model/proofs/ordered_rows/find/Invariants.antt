@@ -1,0 +1,5 @@
+use Rattle.lw_model.proofs.Numbered.{IsLeft}
+use Rattle.lw_model.proofs.ordered_rows.find.Given as goal
+
+abbrev pub invariant-loop-at : goal.invariant-loop-at
+invariant-loop-at g l = IsLeft l.rows l.i l.at l.place
