@@ -19,7 +19,7 @@ use Rattle.lw_sat.proofs.Unwinding.{seed_closed}
 use Rattle.lw_sat.proofs.Using.{rests_as}
 use Rattle.lw_search.specs.declared.level.Level.{Level}
 use Rattle.lw_search.specs.declared.level.Search.{Search}
-use Rattle.lw_search.specs.Levels.{Aim, IsFallen, IsUnderWork, Nested, Place, Waits, child_room, fallen_room, held_room, label, start, unit, waiting_room, work_room}
+use Rattle.lw_search.specs.Levels.{Aim, IsFallen, IsUnderWork, Nested, Place, Stands, Waits, child_room, fallen_room, held_room, label, start, unit, waiting_room, work_room}
 use Rattle.lw_search.specs.Used.{used_step}
 use Rattle.lw_search.specs.Turns.{ClosesStep, FallFits, ReopensOrCloses}
 use Rattle.lw_search.proofs.Summing.{unit_is}
@@ -86,31 +86,31 @@ module _ (t : Table) (aim : Aim) (old s : Search) (p : Tree SignedId) (so_far : 
   abbrev h : IsFallen t aim s p
   h = so_far.0
 
-  dropped : (a : Place) × Nested t aim (start aim) ls a × Waits t aim a l h.place
-  dropped = nested_off t aim ls l (start aim) h.place (subst (λ ks. Nested t aim (start aim) ks h.place) below h.nested)
+  dropped : (a : Place) × Nested t aim (start aim) ls a × Waits t aim a l h.stands.place
+  dropped = nested_off t aim ls l (start aim) h.stands.place (subst (λ ks. Nested t aim (start aim) ks h.stands.place) below h.stands.nested)
 
   pub step_closed : (a : Place) × (b : Place) × ClosesStep t aim a l b s.level.board p
-  step_closed = (dropped.0, h.place, record { guides = h.guides; waits = dropped.2; closed = h.closed })
+  step_closed = (dropped.0, h.stands.place, record { guides = h.stands.guides; waits = dropped.2; closed = h.closed })
 
   cut_fragment : cut_to l.world s.fragment ≡ dropped.0.fragment
-  cut_fragment = ap (cut_to l.world) h.fragment ∙ dropped.2.serves.back
+  cut_fragment = ap (cut_to l.world) h.stands.fragment ∙ dropped.2.serves.back
 
   held_is : fallen_room t aim.bound s ≡ held_room (item_count t) aim.bound ls + waiting_room (item_count t) (aim.bound - length ls) l
   held_is = ap (held_room (item_count t) aim.bound) below ∙ held_on (item_count t) aim.bound ls l
 
   -- the search n goes on at the level, with the fragment cut to its worlds
   module _ (n : Search) (e : n.below.items ≡ ls) (fragment : n.fragment ≡ cut_to l.world s.fragment) where
-    opened : ReopensOrCloses t aim dropped.0 l n.level None → IsUnderWork t aim n
-    opened opens = record {
-      guides = h.guides;
+    abbrev stands : Stands t aim n.below.items n.fragment
+    stands = record {
+      guides = h.stands.guides;
       place = dropped.0;
       nested = subst (λ ks. Nested t aim (start aim) ks dropped.0) (sym e) dropped.1;
       is_place = dropped.2.serves.place;
-      at = opens.0;
-      steps = opens.1;
-      parent = opens.2 ∙ dropped.2.serves.parent;
       fragment = fragment ∙ cut_fragment;
     }
+
+    opened : ReopensOrCloses t aim dropped.0 l n.level None → IsUnderWork t aim n
+    opened opens = record { stands = stands; at = opens.0; steps = opens.1; parent = opens.2 ∙ dropped.2.serves.parent }
 
     opened_room : ReopensOrCloses t aim dropped.0 l n.level None → work_room t aim.bound n < fallen_room t aim.bound old
     opened_room opens =
@@ -122,17 +122,7 @@ module _ (t : Table) (aim : Aim) (old s : Search) (p : Tree SignedId) (so_far : 
         omega (arith, held_is, new, less, so_far.1)
 
     fallen : (q : Tree SignedId) → ReopensOrCloses t aim dropped.0 l n.level (Some q) → IsFallen t aim n q
-    fallen q closes = record {
-      guides = h.guides;
-      place = dropped.0;
-      nested = subst (λ ks. Nested t aim (start aim) ks dropped.0) (sym e) dropped.1;
-      is_place = dropped.2.serves.place;
-      board = closes.0;
-      wide = closes.1;
-      closed = closes.2;
-      steps = closes.3;
-      fragment = fragment ∙ cut_fragment;
-    }
+    fallen q closes = record { stands = stands; board = closes.0; wide = closes.1; closed = closes.2; steps = closes.3 }
 
     onward : (found : Option (Tree SignedId)) → ReopensOrCloses t aim dropped.0 l n.level found → FallGoesOn t aim old n found
     onward None opens = (opened opens, opened_room opens)
@@ -142,11 +132,11 @@ module _ (t : Table) (aim : Aim) (old s : Search) (p : Tree SignedId) (so_far : 
     pub goes_on : (found : Option (Tree SignedId)) →
         ((aim : Aim) (a b : Place) → ClosesStep t aim a l b s.level.board p → steps p ≤ b.left → ReopensOrCloses t aim a l n.level found) → FallGoesOn t aim old n found
     unfolding dropped step_closed
-    goes_on found closed = onward found (closed aim dropped.0 h.place step_closed.2 h.steps)
+    goes_on found closed = onward found (closed aim dropped.0 h.stands.place step_closed.2 h.steps)
 
 -- no level is left: the first seed is closed
 pub all_fallen : (t : Table) (aim : Aim) (s : Search) (p : Tree SignedId) → IsFallen t aim s p → s.below.items ≡ [] → Closes t aim.seed p × (steps p ≤ aim.bound)
 all_fallen t aim s p h e =
-    let at_start : start aim ≡ h.place = subst (λ ls. Nested t aim (start aim) ls h.place) e h.nested in
+    let at_start : start aim ≡ h.stands.place = subst (λ ls. Nested t aim (start aim) ls h.stands.place) e h.stands.nested in
     let left = ap (λ (x : Place). x.left) at_start in
-    (subst (λ (X : Set ℕ). Closes t X p) (sym (ap (λ (x : Place). x.seed) at_start)) (seed_closed t h.place.seed s.level.board p h.closed), (let few = h.steps in omega (arith, few, left)))
+    (subst (λ (X : Set ℕ). Closes t X p) (sym (ap (λ (x : Place). x.seed) at_start)) (seed_closed t h.stands.place.seed s.level.board p h.closed), (let few = h.steps in omega (arith, few, left)))

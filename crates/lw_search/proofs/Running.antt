@@ -39,20 +39,16 @@ module _ (t : Table) (aim : Aim) (s : Search) (h : IsUnderWork t aim s) (n : Lev
   no_more : (held a b u : ℕ) → a * u ≤ b * u → held + a * u ≤ held + b * u
   no_more held a b u less = omega arith
 
-  pub worked : {E : Type 0} (r : Result (Option (Tree SignedId)) E) → IfOk r (RunFits t h.place.seed (aim.rank h.place.path h.place.left) n.frames.items n.board) → OnOk r (IsBoard n.board) →
+  pub worked : {E : Type 0} (r : Result (Option (Tree SignedId)) E) → IfOk r (RunFits t h.stands.place.seed (aim.rank h.stands.place.path h.stands.place.left) n.frames.items n.board) → OnOk r (IsBoard n.board) →
       OnOk r (n.board.bits ≡ s.level.board.bits) → IfOk r (λ found. IfNone found (room n.board ≤ room s.level.board)) → IfOk r (λ found. fold_steps n.frames.items found ≤ most_steps s.level.frames.items) →
       IfOk r (WorkFits t aim s (record s { level = n }))
   worked (Err e) fits board bits falls few = tt
   worked (Ok None) fits board bits falls few = (
     record {
-      guides = h.guides;
-      place = h.place;
-      nested = h.nested;
-      is_place = h.is_place;
+      stands = h.stands;
       at = fits.0;
       steps = (let all = h.steps in omega arith);
       parent = parent ∙ h.parent;
-      fragment = h.fragment;
     },
     fits.1,
     let u = unit (item_count t) (aim.bound - length s.below.items) in
@@ -60,15 +56,11 @@ module _ (t : Table) (aim : Aim) (s : Search) (h : IsUnderWork t aim s) (n : Lev
   )
   worked (Ok (Some p)) closed board bits falls few = (
     record {
-      guides = h.guides;
-      place = h.place;
-      nested = h.nested;
-      is_place = h.is_place;
+      stands = h.stands;
       board = board;
       wide = (let wide = h.at.wide in omega arith);
       closed = closed;
       steps = (let all = h.steps in omega arith);
-      fragment = h.fragment;
     },
     more (held_room (item_count t) aim.bound s.below.items) (room s.level.board * unit (item_count t) (aim.bound - length s.below.items)),
   ) where

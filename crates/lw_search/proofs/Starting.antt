@@ -38,10 +38,13 @@ begun t rank bound item s guides below ranks begins =
     let aim : Aim = record { rank = rank; seed = among (item ∷ []); bound = bound } in
     let own : IsOfItems t aim.seed = one_item t item below in
     record {
-      guides = guides;
-      place = start aim;
-      nested = subst (λ ls. Nested t aim (start aim) ls (start aim)) (sym begins.below) refl;
-      is_place = record { items = own; leads = tt; left = omega arith; begins = λ i e. e; sound = sound_start t bound aim.seed };
+      stands = record {
+        guides = guides;
+        place = start aim;
+        nested = subst (λ ls. Nested t aim (start aim) ls (start aim)) (sym begins.below) refl;
+        is_place = record { items = own; leads = tt; left = omega arith; begins = λ i e. e; sound = sound_start t bound aim.seed };
+        fragment = begins.fragment;
+      };
       at = subst (λ fs. IsAt t aim.seed (rank [] bound) fs s.level.board) (sym begins.frames) (record {
         board = begins.board;
         wide = begins.wide;
@@ -51,5 +54,4 @@ begun t rank bound item s guides below ranks begins =
       });
       steps = subst (λ fs. most_steps fs ≤ bound) (sym begins.frames) (omega arith);
       parent = begins.parent;
-      fragment = begins.fragment;
     }

@@ -1,5 +1,5 @@
 -- How a search goes on from one state to the next.
-use Rattle.std.proofs.Common.{◌≡◌, ℕ, suc, ◌+◌, ◌-◌, ◌*◌, ◌<◌, ◌≤◌, Bool, true, false, Option, Some, List, [], ◌∷◌, ◌++◌, length, inl, inr, refl, sym, ap, subst, ◌∙◌, arith}
+use Rattle.std.proofs.Common.{◌≡◌, ℕ, suc, ◌+◌, ◌-◌, ◌*◌, ◌<◌, ◌≤◌, Bool, true, Option, Some, List, [], ◌∷◌, ◌++◌, length, inl, inr, refl, sym, ap, subst, ◌∙◌, arith}
 use Rattle.std.specs.Bool.{IsTrue}
 use Rattle.std.specs.List.{All}
 use Rattle.std.specs.Option.{ForSome}
@@ -23,6 +23,7 @@ use Rattle.lw_sat.proofs.Lacking.{weight_some}
 use Rattle.lw_sat.proofs.Leading.{chain_items, chain_within}
 use Rattle.lw_search.specs.declared.level.Level.{Level}
 use Rattle.lw_search.specs.declared.level.Search.{Search}
+use Rattle.lw_search.specs.declared.level.Served.TheVariants.{ByStep, Done}
 use Rattle.lw_search.specs.Explored.{IsExplored}
 use Rattle.lw_search.specs.Levels.{Aim, Begins, IsServing, IsUnderWork, Nested, Place, Serves, Waits, above, child_room, child_size, held_room, label, most_room, past, serving_room, start, unit, waiting_room, work_room}
 use Rattle.lw_search.specs.Ranked.{AsksFor, IsServedBy, LeadsTo, Past}
@@ -50,7 +51,7 @@ module _ (t : Table) (X : Set ℕ) (test : Set ℕ → Bool) (l : Level) (h : Is
 -- an unclosed label becomes a world
 module _ (t : Table) (aim : Aim) (s : Search) (h : IsUnderWork t aim s) (unclosed : IsUnclosedLabel t (label s.level)) (ls : List ℕ) (own : All (λ i. i < item_count t) ls) (same : among ls ≡ label s.level) where
   abbrev a : Place
-  a = h.place
+  a = h.stands.place
 
   abbrev settled_level : Level
   settled_level = record s.level { world = length s.fragment.worlds; item = 0 }
@@ -62,20 +63,20 @@ module _ (t : Table) (aim : Aim) (s : Search) (h : IsUnderWork t aim s) (unclose
   settled = record s { level = settled_level; fragment = settled_fragment }
 
   pub parent_there : ForSome s.level.parent (λ w. w < length s.fragment.worlds)
-  parent_there w e = there a.path h.is_place.sound.way (sym h.parent ∙ e) where
-    there : (ps : List Past) → IsOnWay aim.bound h.is_place.sound.heights.height a.fragment ps → last_world ps ≡ Some w → w < length s.fragment.worlds
+  parent_there w e = there a.path h.stands.is_place.sound.way (sym h.parent ∙ e) where
+    there : (ps : List Past) → IsOnWay aim.bound h.stands.is_place.sound.heights.height a.fragment ps → last_world ps ≡ Some w → w < length s.fragment.worlds
     there [] way q = absurd (let bad : ⊥ = cc in bad)
-    there (p ∷ ps) way q = (let is : p.world ≡ w = cc in let long = ap (λ (f : Fragment). length f.worlds) h.fragment in omega (arith, way.0, long, is))
+    there (p ∷ ps) way q = (let is : p.world ≡ w = cc in let long = ap (λ (f : Fragment). length f.worlds) h.stands.fragment in omega (arith, way.0, long, is))
 
   begins_on : length a.fragment.worlds ≡ 0 → IsWithin aim.seed (among ls)
-  begins_on e i there = subst (λ (Y : Set ℕ). Y i ≡ true) (sym same) (label_within t a.seed (aim.rank a.path a.left) s.level h.at i (from a.path h.is_place.sound.way h.is_place.begins i there)) where
-    from : (ps : List Past) → IsOnWay aim.bound h.is_place.sound.heights.height a.fragment ps → Begins aim.seed ps a.seed → IsWithin aim.seed a.seed
+  begins_on e i there = subst (λ (Y : Set ℕ). Y i ≡ true) (sym same) (label_within t a.seed (aim.rank a.path a.left) s.level h.at i (from a.path h.stands.is_place.sound.way h.stands.is_place.begins i there)) where
+    from : (ps : List Past) → IsOnWay aim.bound h.stands.is_place.sound.heights.height a.fragment ps → Begins aim.seed ps a.seed → IsWithin aim.seed a.seed
     from [] way b = b
     from (p ∷ ps) way b = absurd (omega (arith, way.0, e))
 
   flows_to : (p : Past) (ps : List Past) → a.path ≡ p ∷ ps → IsWithin (kept (items t) t.logic p.label) (among ls)
   flows_to p ps e i there =
-      let leads : LeadsTo t (p ∷ ps) a.seed = subst (λ qs. LeadsTo t qs a.seed) e h.is_place.leads in
+      let leads : LeadsTo t (p ∷ ps) a.seed = subst (λ qs. LeadsTo t qs a.seed) e h.stands.is_place.leads in
       subst (λ (Y : Set ℕ). Y i ≡ true) (sym same)
       (label_within t a.seed (aim.rank a.path a.left) s.level h.at i
       (leads.0.2 i (or_right (among (added (items t) t.logic p.item leads.0.0) i) (kept (items t) t.logic p.label i) there)))
@@ -84,23 +85,23 @@ module _ (t : Table) (aim : Aim) (s : Search) (h : IsUnderWork t aim s) (unclose
   settled_serving =
       let Q : Fragment → Option ℕ → Set ℕ → Type 0 = λ f p X. IsSound t aim.bound aim.seed ((record { world = length f.worlds; label = X; item = 0 }) ∷ a.path) (with_world f p ls) in
       record {
-        guides = h.guides;
+        guides = h.stands.guides;
         place = a;
-        nested = h.nested;
+        nested = h.stands.nested;
         serves = record {
-          place = h.is_place;
+          place = h.stands.is_place;
           at = h.at;
           steps = h.steps;
           parent = h.parent;
           inside = omega arith;
           unclosed = unclosed;
-          world = ap (λ (f : Fragment). length f.worlds) h.fragment;
-          back = cut_push (length s.fragment.worlds) s.fragment s.level.parent ls (omega arith) ∙ subst (λ (f : Fragment). cut_to (length f.worlds) f ≡ a.fragment) (sym h.fragment) (cut_self a.fragment h.is_place.sound.formed);
+          world = ap (λ (f : Fragment). length f.worlds) h.stands.fragment;
+          back = cut_push (length s.fragment.worlds) s.fragment s.level.parent ls (omega arith) ∙ subst (λ (f : Fragment). cut_to (length f.worlds) f ≡ a.fragment) (sym h.stands.fragment) (cut_self a.fragment h.stands.is_place.sound.formed);
           sound =
-              subst (λ f. Q f s.level.parent (label s.level)) (sym h.fragment)
+              subst (λ f. Q f s.level.parent (label s.level)) (sym h.stands.fragment)
               (subst (λ p. Q a.fragment p (label s.level)) (sym h.parent)
               (subst (λ X. Q a.fragment (last_world a.path) X) same
-              (sound_push t aim.bound aim.seed a.path a.fragment ls h.is_place.sound a.left own (subst (IsUnclosedLabel t) (sym same) unclosed) begins_on h.is_place.left flows_to)));
+              (sound_push t aim.bound aim.seed a.path a.fragment ls h.stands.is_place.sound a.left own (subst (IsUnclosedLabel t) (sym same) unclosed) begins_on h.stands.is_place.left flows_to)));
           few = few_start (length settled_fragment.worlds) (length s.fragment.worlds) (child_size (askers t) a.left) (length_with s.fragment s.level.parent ls);
         };
       }
@@ -112,6 +113,22 @@ module _ (t : Table) (aim : Aim) (s : Search) (h : IsUnderWork t aim s) (unclose
       room_settled (held_room (item_count t) aim.bound s.below.items) (room_below b.bits (spot_of b)) (unit (item_count t) left) (item_count t) (child_room (item_count t) left) (weight (top b.labels) b.bits)
       (unit_is (item_count t) left) (weight_some (top b.labels) b.bits)
 
+-- a level goes on with its items, up to the item i, where the fragment has become g
+serves_on : (t : Table) (aim : Aim) (a : Place) (l : Level) (f g : Fragment) (i : ℕ) → Serves t aim a l f → i ≤ item_count t → cut_to l.world g ≡ a.fragment → IsSound t aim.bound aim.seed (past (record l { item = i }) ∷ a.path) g →
+    length g.worlds ≤ l.world + 1 + count_below (is_asker t) i * child_size (askers t) a.left → Serves t aim a (record l { item = i }) g
+serves_on t aim a l f g i h inside back sound few = record {
+  place = h.place;
+  at = h.at;
+  steps = h.steps;
+  parent = h.parent;
+  inside = inside;
+  unclosed = h.unclosed;
+  world = h.world;
+  back = back;
+  sound = sound;
+  few = few;
+}
+
 -- a link serves a π of the last level
 module _ (t : Table) (aim : Aim) (s : Search) (h : IsServing t aim s) (v c : ℕ) (below : v < length s.fragment.worlds) (serves : IsServedBy t (label s.level) (items_of s.fragment v) c) where
   pub linked_serving : IsServing t aim (record s { fragment = with_link s.fragment s.level.world v })
@@ -119,18 +136,8 @@ module _ (t : Table) (aim : Aim) (s : Search) (h : IsServing t aim s) (v c : ℕ
     guides = h.guides;
     place = h.place;
     nested = h.nested;
-    serves = record {
-      place = h.serves.place;
-      at = h.serves.at;
-      steps = h.serves.steps;
-      parent = h.serves.parent;
-      inside = h.serves.inside;
-      unclosed = h.serves.unclosed;
-      world = h.serves.world;
-      back = cut_link s.level.world s.fragment s.level.world v (omega arith) ∙ h.serves.back;
-      sound = sound_link t aim.bound aim.seed (label s.level) h.place.path s.fragment s.level.world v s.level.item c h.serves.sound below serves;
-      few = h.serves.few;
-    };
+    serves = serves_on t aim h.place s.level s.fragment (with_link s.fragment s.level.world v) s.level.item h.serves h.serves.inside (cut_link s.level.world s.fragment s.level.world v (omega arith) ∙ h.serves.back)
+        (sound_link t aim.bound aim.seed (label s.level) h.place.path s.fragment s.level.world v s.level.item c h.serves.sound below serves) h.serves.few;
   }
 
   pub linked_witness : (let f : Fragment = with_link s.fragment s.level.world v in HasWitness t.logic f (items_of f) s.level.world c)
@@ -146,18 +153,9 @@ module _ (t : Table) (aim : Aim) (s : Search) (h : IsServing t aim s) (below : s
     guides = h.guides;
     place = h.place;
     nested = h.nested;
-    serves = record {
-      place = h.serves.place;
-      at = h.serves.at;
-      steps = h.serves.steps;
-      parent = h.serves.parent;
-      inside = omega arith;
-      unclosed = h.serves.unclosed;
-      world = h.serves.world;
-      back = h.serves.back;
-      sound = sound_next t aim.bound aim.seed (label s.level) h.place.path s.fragment s.level.world s.level.item h.serves.sound here;
-      few = few_more t (length s.fragment.worlds) s.level.world s.level.item (child_size (askers t) h.place.left) h.serves.few;
-    };
+    serves = serves_on t aim h.place s.level s.fragment s.fragment (s.level.item + 1) h.serves (omega arith) h.serves.back
+        (sound_next t aim.bound aim.seed (label s.level) h.place.path s.fragment s.level.world s.level.item h.serves.sound here)
+        (few_more t (length s.fragment.worlds) s.level.world s.level.item (child_size (askers t) h.place.left) h.serves.few);
   }
 
   pub itself_witness : ServesItself t (label s.level) s.level.item → (c : ℕ) → label s.level s.level.item ≡ true → (entry_at t s.level.item).parts ≡ Pi c → HasWitness t.logic s.fragment (items_of s.fragment) s.level.world c
@@ -195,19 +193,22 @@ module _ (t : Table) (aim : Aim) (s : Search) (h : IsServing t aim s) (c : ℕ) 
   to = above t from s.level c s.fragment
 
   pub descended : (n : Search) → n.below.items ≡ s.below.items ++ s.level ∷ [] → n.level.frames.items ≡ [] → n.level.parent ≡ Some s.level.world → n.fragment ≡ s.fragment → IsBoard n.level.board → IsWide t n.level.board →
-      spot_of n.level.board ≡ root (seed t (label s.level) s.level.item c) → room n.level.board ≤ most_room (item_count t) → StepFits t aim s n true
+      spot_of n.level.board ≡ root (seed t (label s.level) s.level.item c) → room n.level.board ≤ most_room (item_count t) → StepFits t aim s n ByStep
   descended n below frames parent fragment board wide spot few = (under_work, less) where
     under_work : IsUnderWork t aim n
     under_work = record {
-      guides = h.guides;
-      place = to;
-      nested = subst (λ ls. Nested t aim (start aim) ls to) (sym below) (nested_on t aim s.below.items s.level (start aim) from to h.nested (record { serves = h.serves; inner = c; asks = asks; next = refl }));
-      is_place = record {
-        items = seed_items t h.guides.table h.guides.uncut (label s.level) s.level.item c asks.items asked.there asked.parts;
-        leads = ((c, asked.parts, λ i e. e), asks.leads);
-        left = (let left = h.serves.place.left in omega (arith, descends.0, left));
-        begins = tt;
-        sound = h.serves.sound;
+      stands = record {
+        guides = h.guides;
+        place = to;
+        nested = subst (λ ls. Nested t aim (start aim) ls to) (sym below) (nested_on t aim s.below.items s.level (start aim) from to h.nested (record { serves = h.serves; inner = c; asks = asks; next = refl }));
+        is_place = record {
+          items = seed_items t h.guides.table h.guides.uncut (label s.level) s.level.item c asks.items asked.there asked.parts;
+          leads = ((c, asked.parts, λ i e. e), asks.leads);
+          left = (let left = h.serves.place.left in omega (arith, descends.0, left));
+          begins = tt;
+          sound = h.serves.sound;
+        };
+        fragment = fragment;
       };
       at = subst (λ fs. IsAt t to.seed (aim.rank to.path to.left) fs n.level.board) (sym frames) (record {
         board = board;
@@ -218,7 +219,6 @@ module _ (t : Table) (aim : Aim) (s : Search) (h : IsServing t aim s) (c : ℕ) 
       });
       steps = subst (λ fs. most_steps fs ≤ to.left) (sym frames) (omega arith);
       parent = parent;
-      fragment = fragment;
     }
 
     less : work_room t aim.bound n ≤ serving_room t aim.bound s
@@ -293,19 +293,10 @@ module _ (t : Table) (aim : Aim) (s : Search) (h : IsServing t aim s) (all : s.l
       omega (arith, h.serves.few, whole, count, same)
 
   pub risen_serves : Serves t aim lower next_of f
-  risen_serves = record {
-    place = waits.serves.place;
-    at = waits.serves.at;
-    steps = waits.serves.steps;
-    parent = waits.serves.parent;
-    inside = omega (arith, item_below);
-    unclosed = waits.serves.unclosed;
-    world = waits.serves.world;
-    back = risen_back;
-    sound = sound_next t aim.bound aim.seed (label l) lower.path f l.world l.item done risen_witness;
-    few = few_child t (length f.worlds) s.level.world l.world l.item (askers t) lower.left descends_at.1 descends_at.0
-        (subst (λ w. w ≤ l.world + 1 + count_below (is_asker t) l.item * child_size (askers t) lower.left) (sym h.serves.world) waits.serves.few) child_few;
-  }
+  risen_serves =
+      serves_on t aim lower l h.place.fragment f (l.item + 1) waits.serves (omega (arith, item_below)) risen_back (sound_next t aim.bound aim.seed (label l) lower.path f l.world l.item done risen_witness)
+      (few_child t (length f.worlds) s.level.world l.world l.item (askers t) lower.left descends_at.1 descends_at.0
+      (subst (λ w. w ≤ l.world + 1 + count_below (is_asker t) l.item * child_size (askers t) lower.left) (sym h.serves.world) waits.serves.few) child_few)
 
   pub risen : (n : Search) → n.below.items ≡ ls → n.level ≡ next_of → n.fragment ≡ f → IsServing t aim n × (serving_room t aim.bound n ≤ serving_room t aim.bound s)
   risen n e level fragment = (
@@ -362,7 +353,7 @@ serving_room_same t k n s e f =
 -- the item of the last level is served
 pub item_done : (t : Table) (aim : Aim) (s n : Search) → IsServing t aim n → n.level ≡ s.level → n.below ≡ s.below → s.level.item < item_count t →
     ((c : ℕ) → label n.level n.level.item ≡ true → (entry_at t n.level.item).parts ≡ Pi c → HasWitness t.logic n.fragment (items_of n.fragment) n.level.world c) →
-    StepFits t aim s (record n { level = record n.level { item = s.level.item + 1 } }) false
+    StepFits t aim s (record n { level = record n.level { item = s.level.item + 1 } }) Done
 item_done t aim s n h level below inside here =
     let item = ap (λ (l : Level). l.item) level in
     let within : n.level.item < item_count t = omega arith in

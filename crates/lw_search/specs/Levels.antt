@@ -112,16 +112,20 @@ pub record IsBegun (t : Table) (X : Set ℕ) (s : Search) : Type 0 where
   pub parent : s.level.parent ≡ None
   pub fragment : s.fragment ≡ record { worlds = []; links = [] }
 
--- the last level's label is under work, and its world isn't in the fragment yet
-pub record IsUnderWork (t : Table) (aim : Aim) (s : Search) : Type 0 where
+-- the levels wait one on the other up to the last level's place, and the fragment f is as it was when that level began
+pub record Stands (t : Table) (aim : Aim) (ls : List Level) (f : Fragment) : Type 0 where
   pub guides : Guides t aim.rank
   pub place : Place
-  pub nested : Nested t aim (start aim) s.below.items place
+  pub nested : Nested t aim (start aim) ls place
   pub is_place : IsPlace t aim place
-  pub at : IsAt t place.seed (aim.rank place.path place.left) s.level.frames.items s.level.board
-  pub steps : most_steps s.level.frames.items ≤ place.left
-  pub parent : s.level.parent ≡ last_world place.path
-  pub fragment : s.fragment ≡ place.fragment
+  pub fragment : f ≡ place.fragment
+
+-- the last level's label is under work, and its world isn't in the fragment yet
+pub record IsUnderWork (t : Table) (aim : Aim) (s : Search) : Type 0 where
+  pub stands : Stands t aim s.below.items s.fragment
+  pub at : IsAt t stands.place.seed (aim.rank stands.place.path stands.place.left) s.level.frames.items s.level.board
+  pub steps : most_steps s.level.frames.items ≤ stands.place.left
+  pub parent : s.level.parent ≡ last_world stands.place.path
 
 -- the last level's label is unclosed, and its π are served one after another
 pub record IsServing (t : Table) (aim : Aim) (s : Search) : Type 0 where
@@ -132,15 +136,11 @@ pub record IsServing (t : Table) (aim : Aim) (s : Search) : Type 0 where
 
 -- the last level's seed is closed, by the items that its board has
 pub record IsFallen (t : Table) (aim : Aim) (s : Search) (p : Tree SignedId) : Type 0 where
-  pub guides : Guides t aim.rank
-  pub place : Place
-  pub nested : Nested t aim (start aim) s.below.items place
-  pub is_place : IsPlace t aim place
+  pub stands : Stands t aim s.below.items s.fragment
   pub board : IsBoard s.level.board
   pub wide : IsWide t s.level.board
-  pub closed : IsClosedAt t (root place.seed) s.level.board p
-  pub steps : steps p ≤ place.left
-  pub fragment : s.fragment ≡ place.fragment
+  pub closed : IsClosedAt t (root stands.place.seed) s.level.board p
+  pub steps : steps p ≤ stands.place.left
 
 -- the most that is left to do at a label of a closure with so many items
 abbrev pub most_room : ℕ → ℕ

@@ -7,3 +7,4 @@ pub mod Used
 pub mod Sound
 pub mod Levels
 pub mod Turns
+pub mod Tableau

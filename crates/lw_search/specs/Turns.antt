@@ -16,6 +16,8 @@ use Rattle.lw_sat.specs.Path.{root, room_below, spot_of, most_steps, IsBoard, Is
 use Rattle.lw_sat.specs.Saturated.{room, IsAt}
 use Rattle.lw_search.specs.declared.level.Level.{Level}
 use Rattle.lw_search.specs.declared.level.Search.{Search}
+use Rattle.lw_search.specs.declared.level.Served.{Served}
+use Rattle.lw_search.specs.declared.level.Served.TheVariants as served
 use Rattle.lw_search.specs.declared.level.Turn.{Turn}
 use Rattle.lw_search.specs.declared.level.Turn.TheVariants as turn
 use Rattle.lw_search.specs.Explored.{IsExplored}
@@ -46,21 +48,21 @@ abbrev pub TakesStep : Table → Aim → Search → Search → Type 0
 TakesStep t aim old new = IsUnderWork t aim new × (work_room t aim.bound new ≤ serving_room t aim.bound old)
 
 -- after one π: a step was taken, or the next π is to be served
-abbrev pub StepFits : Table → Aim → Search → Search → Bool → Type 0
-StepFits t aim old new true = TakesStep t aim old new
-StepFits t aim old new false =
+abbrev pub StepFits : Table → Aim → Search → Search → Served → Type 0
+StepFits t aim old new served.ByStep = TakesStep t aim old new
+StepFits t aim old new served.Done =
     IsServing t aim new × (new.level.item ≡ old.level.item + 1) × (serving_room t aim.bound new ≤ serving_room t aim.bound old) × (new.below ≡ old.below)
 
 -- after all π of a label: a step was taken, or all are served
-abbrev pub ServeFits : Table → Aim → Search → Search → Bool → Type 0
-ServeFits t aim old new true = TakesStep t aim old new
-ServeFits t aim old new false =
+abbrev pub ServeFits : Table → Aim → Search → Search → Served → Type 0
+ServeFits t aim old new served.ByStep = TakesStep t aim old new
+ServeFits t aim old new served.Done =
     IsServing t aim new × (new.level.item ≡ item_count t) × (serving_room t aim.bound new ≤ serving_room t aim.bound old) × (new.below ≡ old.below)
 
 -- after all π of all labels: a step was taken, or the fragment is open
-abbrev pub RiseFits : Table → Aim → Search → Search → Bool → Type 0
-RiseFits t aim old new true = TakesStep t aim old new
-RiseFits t aim old new false = IsExplored t aim.bound aim.seed new.fragment
+abbrev pub RiseFits : Table → Aim → Search → Search → Served → Type 0
+RiseFits t aim old new served.ByStep = TakesStep t aim old new
+RiseFits t aim old new served.Done = IsExplored t aim.bound aim.seed new.fragment
 
 -- what work on the last label comes to: it is unclosed, or its seed is closed
 abbrev pub WorkFits : Table → Aim → Search → Search → Option (Tree SignedId) → Type 0

@@ -10,7 +10,7 @@ ghost use Rattle.lw_search.specs.Ranked.{IsRanked};
 use crate::level::{Level, Search, Turn};
 use crate::outcome::Outcome;
 use crate::rule::StepRule;
-use crate::turn::advance;
+use crate::tableau::Tableau;
 use lw_closure::Closure;
 use lw_counter::Fragment;
 use lw_formula::Sign;
@@ -18,24 +18,26 @@ use lw_pool::{Pool, SignedId};
 use lw_sat::Board;
 use std::alloc::{AllocError, Global};
 
-// A search whose first seed is the item alone.
-fn begin(alloc: Global, closure: &Closure, item: usize) -> Result<Search, AllocError>
-    requires { item < item_count closure.now }
-    ensures { IfOk result (IsBegun closure.now (among (item ∷ []))) }
-{
-    let mut board = Board::new(alloc, 2 * closure.count())?;
-    board.add_side((item, None));
-    Ok(Search {
-        below: Vec::new(alloc),
-        level: Level {
-            frames: Vec::new(alloc),
-            board,
-            parent: None,
-            world: 0,
-            item: 0,
-        },
-        fragment: Fragment::new(alloc),
-    })
+impl<R: StepRule> Tableau<'_, R> {
+    // A search whose first seed is the item alone.
+    fn begin(&self, alloc: Global, item: usize) -> Result<Search, AllocError>
+        requires { item < item_count self.now }
+        ensures { IfOk result (IsBegun self.now (among (item ∷ []))) }
+    {
+        let mut board = Board::new(alloc, self.item_count())?;
+        board.add_side((item, None));
+        Ok(Search {
+            below: Vec::new(alloc),
+            level: Level {
+                frames: Vec::new(alloc),
+                board,
+                parent: None,
+                world: 0,
+                item: 0,
+            },
+            fragment: Fragment::new(alloc),
+        })
+    }
 }
 
 /// Looks for a proof that closes the set of the closure's goal under the sign F, or for an open fragment with it, by
@@ -58,9 +60,10 @@ pub fn explore<R: StepRule>(
     let Some(item) = closure.number(goal) else {
         unreachable!()
     };
-    let mut search = begin(alloc, closure, item)?;
+    let tableau = Tableau { closure, rule };
+    let mut search = tableau.begin(alloc, item)?;
     loop {
-        match advance(alloc, closure, rule, &mut search)? {
+        match tableau.advance(alloc, &mut search)? {
             Turn::Moved => {}
             Turn::Done => {
                 let Search { fragment, .. } = search;

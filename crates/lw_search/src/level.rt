@@ -32,3 +32,12 @@ pub enum Turn {
     /// The first seed is closed.
     Closed(Proof),
 }
+
+/// What comes of serving items.
+#[derive(Drop)]
+pub enum Served {
+    /// A step was taken, and its seed is under work.
+    ByStep,
+    /// They are all served.
+    Done,
+}

@@ -12,6 +12,7 @@ mod rule;
 mod searching;
 mod seed;
 mod serve;
+mod tableau;
 mod turn;
 mod used;
 mod world;
