@@ -3,6 +3,8 @@
 
 mod deciding;
 mod fault;
+#[cfg(test)]
+mod tests;
 
 pub use deciding::decide;
 pub use fault::DecideFault;

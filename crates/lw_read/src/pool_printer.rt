@@ -214,4 +214,15 @@ mod tests {
         }
         Ok(())
     }
+
+    #[test]
+    fn a_text_is_written_behind_what_is_there(rt: HostRuntime) -> Result<(), Fail> {
+        let alloc = rt.alloc();
+        let mut pool = Pool::new(alloc);
+        let id = pool.from_form(&read_formula(alloc, b"box(p -> q)")?)?;
+        let mut out = Vec::from_slice(alloc, b"one F ")?;
+        write_formula(alloc, &pool, id, &mut out)?;
+        assert_eq!(&rt; out.as_slice(), b"one F box(p -> q)".as_slice());
+        Ok(())
+    }
 }

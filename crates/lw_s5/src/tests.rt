@@ -11,7 +11,9 @@ use crate::search_s5;
 use lw_closure::{Closure, closure};
 use lw_counter::Answer;
 use lw_formula::{Logic, Name};
+use lw_model::{holds, in_class};
 use lw_pool::{FormId, Node, Pool};
+use lw_proof::Rule;
 use lw_sat::{Found, Saturation};
 use std::alloc::{AllocError, Global};
 use std::process::Abort;
@@ -39,13 +41,19 @@ fn mckinsey(alloc: Global, pool: &mut Pool) -> Result<FormId, Fail>
     Ok(pool.make(Node::Imp(always, ever))?)
 }
 
+// One, Step and Close.
 #[test]
 fn what_is_possible_is_possible_everywhere(rt: HostRuntime) -> Result<(), Fail> {
     let mut pool = Pool::new(rt.alloc());
     let goal = euclid(rt.alloc(), &mut pool)?;
     let table = closure(&mut pool, Logic::S5, goal)?;
-    let answer = search_s5(rt.alloc(), &pool, &table)?;
-    assert!(rt; matches!(answer, Answer::Yes(_)));
+    match search_s5(rt.alloc(), &pool, &table)? {
+        Answer::Yes(proof) => {
+            assert_eq!(rt; proof.rule(), Rule::One);
+            assert_eq!(rt; proof.lines(), 3);
+        }
+        Answer::No(_, _) => panic!(rt; "it is refuted"),
+    }
     Ok(())
 }
 
@@ -54,8 +62,14 @@ fn a_variable_may_hold_at_one_world_and_fail_at_another(rt: HostRuntime) -> Resu
     let mut pool = Pool::new(rt.alloc());
     let goal = mckinsey(rt.alloc(), &mut pool)?;
     let table = closure(&mut pool, Logic::S5, goal)?;
-    let answer = search_s5(rt.alloc(), &pool, &table)?;
-    assert!(rt; matches!(answer, Answer::No(_, 0)));
+    match search_s5(rt.alloc(), &pool, &table)? {
+        Answer::No(model, world) => {
+            assert_eq!(rt; world, 0);
+            assert!(rt; in_class(&model, Logic::S5));
+            assert!(rt; !holds(&model, world, &pool, goal)?);
+        }
+        Answer::Yes(_) => panic!(rt; "it is proved"),
+    }
     Ok(())
 }
 
