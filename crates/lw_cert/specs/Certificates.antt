@@ -10,7 +10,7 @@ use Rattle.lw_cert.specs.declared.certificate.Body.TheVariants.{Proved, Refuted}
 use Rattle.lw_cert.specs.declared.certificate.Certificate.{Certificate}
 use Rattle.lw_cert.specs.Lines.{Row, pieces}
 use Rattle.lw_cert.specs.Sheet.{Sheet, Content, Steps, Table}
-use Rattle.lw_cert.specs.Faults.{Reads}
+use Rattle.lw_cert.specs.CertificateFaults.{Reads}
 
 -- the row of world w; a world that has none sees none, and nothing is true there
 abbrev pub row_at : List Row → ℕ → Row

@@ -7,7 +7,7 @@ use Rattle.lw_cert.specs.declared.fault.CertFault.TheVariants.{Memory}
 use Rattle.lw_cert.specs.Lines.{pieces}
 use Rattle.lw_cert.specs.Sheet.{Sheet, IsRegular, lines}
 use Rattle.lw_cert.specs.Lines.{AreAllowed}
-use Rattle.lw_cert.specs.Faults.{Reads, IsFaultOf}
+use Rattle.lw_cert.specs.CertificateFaults.{Reads, IsFaultOf}
 use Rattle.lw_cert.specs.Certificates.{IsTextOf}
 use Rattle.lw_cert.specs.Written.{IsWritten}
 

@@ -1,10 +1,7 @@
 pub mod Lines
 pub mod Sheet
-pub mod Faults
+pub mod CertificateFaults
 pub mod Certificates
 pub mod Written
-pub mod Writing
 pub mod Laws
-pub mod Machine
-pub mod Views
-pub mod Rows
+pub mod Private

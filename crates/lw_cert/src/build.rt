@@ -1,7 +1,7 @@
 ghost use Rattle.std.specs.Prelude.{◌≡◌, ◌++◌, ◌∷◌, [], ◌<◌, IfOk, OnOk, reverse, take, drop, length, map};
 ghost use Rattle.lw_proof.specs.Tree.{Tree, node, forest};
 ghost use Rattle.lw_proof.specs.Break.{arity};
-ghost use Rattle.lw_cert.specs.Views.{grown, ruled};
+ghost use Rattle.lw_cert.specs.Private.StageViews.{grown, ruled};
 
 use crate::stage::Step;
 use lw_proof::{Proof, Rule};

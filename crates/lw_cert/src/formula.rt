@@ -4,7 +4,7 @@ ghost use Rattle.lw_formula.specs.Tree.{tree_of};
 ghost use Rattle.lw_pool.specs.Region.{tree_at, IsLive, Grows};
 ghost use Rattle.lw_read.specs.Grammar.{ReadsAs};
 ghost use Rattle.lw_read.specs.Text.{text_of};
-ghost use Rattle.lw_cert.specs.Views.{IsReadAt};
+ghost use Rattle.lw_cert.specs.Private.StageViews.{IsReadAt};
 
 use lw_formula::Form;
 use lw_pool::{FormId, Pool};

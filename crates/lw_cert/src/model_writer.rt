@@ -2,7 +2,7 @@ ghost use Rattle.std.specs.Prelude.{◌≡◌, ℕ, ◌<◌, ◌++◌, ◌∷◌
 ghost use Rattle.std.specs.Fmt.{decimal};
 ghost use Rattle.lw_formula.specs.FiniteModel.{IsWellFormed};
 ghost use Rattle.lw_cert.specs.Lines.{numbers, words};
-ghost use Rattle.lw_cert.specs.Writing.{WritesModel, WritesRows, WritesRow};
+ghost use Rattle.lw_cert.specs.Private.LineWriting.{WritesModel, WritesRows, WritesRow};
 
 use lw_formula::Name;
 use lw_model::Model;

@@ -3,7 +3,7 @@ ghost use Rattle.std.specs.declared.alloc.Global.{Global};
 ghost use Rattle.std.specs.declared.vec.Vec.{Vec};
 ghost use Rattle.lw_formula.specs.Formula.{Formula};
 ghost use Rattle.lw_pool.specs.Region.{Grows};
-ghost use Rattle.lw_cert.specs.Views.{IsNext, Concludes, grown, ruled, table};
+ghost use Rattle.lw_cert.specs.Private.StageViews.{IsNext, Concludes, grown, ruled, table};
 
 use crate::build::{arity, built};
 use crate::certificate::{Body, Certificate};

@@ -5,7 +5,7 @@ ghost use Rattle.lw_proof.specs.Pooled.{proof_at, IsProofLive};
 ghost use Rattle.lw_proof.specs.Tree.{lines, subs_of};
 ghost use Rattle.lw_cert.specs.Lines.{proof_follows, step_is, ending};
 ghost use Rattle.lw_cert.specs.Sheet.{steps};
-ghost use Rattle.lw_cert.specs.Writing.{Writes};
+ghost use Rattle.lw_cert.specs.Private.LineWriting.{Writes};
 
 use crate::words::{rule_word, sign_word};
 use lw_pool::{Pool, SignedId};

@@ -2,10 +2,10 @@ ghost use Rattle.std.specs.Prelude.{◌≡◌, ◌<◌, false, [], List, IfOk, I
 ghost use Rattle.lw_formula.specs.Formula.{Formula};
 ghost use Rattle.lw_pool.specs.Region.{Grows};
 ghost use Rattle.lw_cert.specs.Lines.{Whole};
-ghost use Rattle.lw_cert.specs.Faults.{IsFaultOf};
+ghost use Rattle.lw_cert.specs.CertificateFaults.{IsFaultOf};
 ghost use Rattle.lw_cert.specs.Certificates.{IsTextOf};
-ghost use Rattle.lw_cert.specs.Views.{Leads, Refuses, IsNamedFault, last_piece, state_of};
-ghost use Rattle.lw_cert.specs.Machine.{is_modelling, is_ended};
+ghost use Rattle.lw_cert.specs.Private.StageViews.{Leads, Refuses, IsNamedFault, last_piece, state_of};
+ghost use Rattle.lw_cert.specs.Private.LineMachine.{is_modelling, is_ended};
 
 use crate::certificate::Certificate;
 use crate::fault::CertFault;

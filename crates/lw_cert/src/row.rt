@@ -2,7 +2,7 @@ ghost use Rattle.std.specs.Prelude.{◌≡◌, ℕ, ◌<◌, ◌↔◌, [], List
 ghost use Rattle.std.specs.Ordering.{nat_cmp};
 ghost use Rattle.std.specs.Cmp.Lexicographic.{slice_cmp};
 ghost use Rattle.std.specs.declared.cmp.Ordering.TheVariants.{Less};
-ghost use Rattle.lw_cert.specs.Rows.{IsSeen, IsNamed, ReadsSeen, ReadsNames, ReadsRow, IsNoRow};
+ghost use Rattle.lw_cert.specs.Private.RowReading.{IsSeen, IsNamed, ReadsSeen, ReadsNames, ReadsRow, IsNoRow};
 
 use crate::split::next_word;
 use crate::words::{after, number};

@@ -1,7 +1,7 @@
 ghost use Rattle.std.specs.Prelude.{◌≡◌, ◌≢◌, ℕ, ◌+◌, ◌<◌, ◌≤◌, ◌∷◌, ◌==◌, not, [], List, length, take_while, MatchOption};
 ghost use Rattle.lw_cert.specs.Lines.{Piece, Whole, pieces};
-ghost use Rattle.lw_cert.specs.Rows.{IsWord};
-ghost use Rattle.lw_cert.specs.Views.{last_piece};
+ghost use Rattle.lw_cert.specs.Private.RowReading.{IsWord};
+ghost use Rattle.lw_cert.specs.Private.StageViews.{last_piece};
 
 /// The first line, without its line feed, and what stands behind it; `None` where there is no line feed.
 pub fn first_line(text: &[u8]) -> Option<(&[u8], &[u8])>

@@ -4,7 +4,7 @@ ghost use Rattle.lw_pool.specs.Region.{tree_at};
 ghost use Rattle.lw_read.specs.Text.{text_of};
 ghost use Rattle.lw_cert.specs.Lines.{heading, logic_is, formula_is};
 ghost use Rattle.lw_cert.specs.Written.{IsCertificateLive, IsWritten, HasLiveBody};
-ghost use Rattle.lw_cert.specs.Writing.{Writes, WritesBody};
+ghost use Rattle.lw_cert.specs.Private.LineWriting.{Writes, WritesBody};
 
 use crate::certificate::{Body, Certificate};
 use crate::model_writer::write_model;

@@ -1,5 +1,5 @@
-pub mod Grown
-pub mod Sets
-pub mod Kept
-pub mod Outcomes
+pub mod GrownPools
+pub mod IdSets
+pub mod KeptMembers
+pub mod WalkOutcomes
 pub mod Verdicts

@@ -8,7 +8,7 @@ use Rattle.lw_formula.specs.declared.sign.Sign.TheVariants.{F}
 use Rattle.lw_formula.specs.Formula.{Formula, IsSubformula, subformulas}
 use Rattle.lw_formula.specs.Signed.{Signed}
 use Rattle.lw_formula.specs.Validity.{Valid}
-use Rattle.lw_formula.proofs.Subformulas.{is_member-Decides, subformulas-IsSubformula}
+use Rattle.lw_formula.proofs.SubformulaLists.{is_member-Decides, subformulas-IsSubformula}
 use Rattle.lw_pool.specs.declared.id.FormId.{FormId}
 use Rattle.lw_pool.specs.declared.id.SignedId.{SignedId}
 use Rattle.lw_pool.specs.Region.{IsLive, Grows, tree_at, signed_at, is_marked, AreMarks}
@@ -18,16 +18,16 @@ use Rattle.lw_proof.specs.System.{trees, same_signed}
 use Rattle.lw_proof.specs.Derivation.{is_subformula, goal_cuts, only, Proves}
 use Rattle.lw_proof.specs.Break.{break_from, first_break}
 use Rattle.lw_proof.specs.Pooled.{proof_at, IsProofLive}
-use Rattle.lw_proof.proofs.Exact.{break_is_exact}
-use Rattle.lw_proof.proofs.Sound.{proved_is_valid}
+use Rattle.lw_proof.proofs.FirstBreaks.{break_is_exact}
+use Rattle.lw_proof.proofs.Soundness.{proved_is_valid}
 use Rattle.lw_check.specs.declared.verdict.Verdict.{Verdict}
 use Rattle.lw_check.specs.declared.verdict.Verdict.TheVariants.{Accepted, Rejected}
 use Rattle.lw_check.specs.declared.walked.Walked.{Walked}
 use Rattle.lw_check.specs.declared.walked.Walked.TheVariants.{Through, Broken}
 use Rattle.lw_check.specs.Judgement.{verdict_of, IsVerdict, IsAccepted}
-use Rattle.lw_check.specs.Walk.{set_of, AreCuts, outcome_of, Tells}
-use Rattle.lw_check.proofs.Grown.{Grows-refl, signed_grows, proof_grows, EachPrincipal-weaker}
-use Rattle.lw_check.proofs.Sets.{Decides_alike}
+use Rattle.lw_check.specs.Private.ProofWalk.{set_of, AreCuts, outcome_of, Tells}
+use Rattle.lw_check.proofs.GrownPools.{Grows-refl, signed_grows, proof_grows, EachPrincipal-weaker}
+use Rattle.lw_check.proofs.IdSets.{Decides_alike}
 
 module _ (old new : List Formula) (grown : Grows old new) (goal : FormId) where
   -- the marks of the goal's subformulas say what may be cut

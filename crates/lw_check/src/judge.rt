@@ -7,7 +7,7 @@ ghost use Rattle.lw_proof.specs.System.{trees};
 ghost use Rattle.lw_proof.specs.Derivation.{plus, Proves};
 ghost use Rattle.lw_proof.specs.Pooled.{proof_at, IsProofLive};
 ghost use Rattle.lw_check.specs.Judgement.{IsVerdict, IsAccepted};
-ghost use Rattle.lw_check.specs.Walk.{set_of, side_at, AreLive, Tells, TellsAll};
+ghost use Rattle.lw_check.specs.Private.ProofWalk.{set_of, side_at, AreLive, Tells, TellsAll};
 
 use crate::premise::{add_side, left, stepped};
 use crate::step::refusal;

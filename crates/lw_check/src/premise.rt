@@ -7,7 +7,7 @@ ghost use Rattle.lw_proof.specs.System.{trees};
 ghost use Rattle.lw_proof.specs.Derivation.{side, plus, kept, added, only};
 ghost use Rattle.lw_proof.specs.Derivation as derivation;
 ghost use Rattle.lw_proof.specs.Break.{fits, arity};
-ghost use Rattle.lw_check.specs.Walk.{set_of, side_at, AreLive, count_left, left_by, kept_by};
+ghost use Rattle.lw_check.specs.Private.ProofWalk.{set_of, side_at, AreLive, count_left, left_by, kept_by};
 
 use crate::step::flipped;
 use lw_formula::{Logic, Parts, Sign};

@@ -8,7 +8,7 @@ ghost use Rattle.lw_proof.specs.Tree.{rule_of, principal_of, subs_of};
 ghost use Rattle.lw_proof.specs.System.{trees};
 ghost use Rattle.lw_proof.specs.Break as breaks;
 ghost use Rattle.lw_proof.specs.Pooled.{IsProofLive};
-ghost use Rattle.lw_check.specs.Walk.{set_of, AreLive};
+ghost use Rattle.lw_check.specs.Private.ProofWalk.{set_of, AreLive};
 
 use lw_formula::{Logic, Parts, Sign};
 use lw_pool::{FormId, Node, Pool, SignedId};

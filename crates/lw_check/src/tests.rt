@@ -81,7 +81,7 @@ fn fork(
 }
 
 // The verdicts on the proof in K, KT, S4, S5, GL and Grz.
-#[tactic(auto, using(crate::proofs::Grown::IsLive_grows, crate::proofs::Grown::IsProofLive_grows))]
+#[tactic(auto, using(crate::proofs::GrownPools::IsLive_grows, crate::proofs::GrownPools::IsProofLive_grows))]
 fn assert_verdicts(
     rt: &impl Abort,
     pool: &mut Pool,

@@ -1,7 +1,7 @@
 ghost use Rattle.std.specs.Prelude.{◌≡◌, ℕ, Option};
 ghost use Rattle.lw_proof.specs.declared.why.Why.{Why};
 ghost use Rattle.lw_check.specs.Judgement.{verdict_of};
-ghost use Rattle.lw_check.specs.Walk.{outcome_of};
+ghost use Rattle.lw_check.specs.Private.ProofWalk.{outcome_of};
 
 use crate::verdict::Verdict;
 use lw_proof::Why;

@@ -1,3 +1,3 @@
-pub mod Answered
-pub mod Fetched
-pub mod Found
+pub mod FileAnswers
+pub mod FetchedBytes
+pub mod FileFindings

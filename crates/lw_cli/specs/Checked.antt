@@ -12,7 +12,7 @@ use Rattle.lw_cert.specs.declared.fault.CertFault.TheVariants as fault
 use Rattle.lw_cert.specs.Lines.{Row, pieces}
 use Rattle.lw_cert.specs.Sheet.{Sheet, Content, Steps, Table}
 use Rattle.lw_cert.specs.Certificates.{AreRowsOf}
-use Rattle.lw_cert.specs.Faults.{Reads, IsFaultOf}
+use Rattle.lw_cert.specs.CertificateFaults.{Reads, IsFaultOf}
 use Rattle.lw_cli.specs.declared.finding.Finding.{Finding}
 use Rattle.lw_cli.specs.declared.finding.Finding.TheVariants.{FileLimit, ModelText, ProofText, Accepted, RejectedStep, RejectedModel}
 use Rattle.lw_cli.specs.Outcome.{file_limit}

@@ -3,7 +3,7 @@
 -- fix the file's bytes and the output.
 use Rattle.std.specs.Prelude.{◌≡◌, ℕ, Bool, List, Option, Some}
 use Rattle.lw_io.specs.Files.{Files, IsHeld, IsSure}
-use Rattle.lw_io.specs.Written.{Adds, AddsPart}
+use Rattle.lw_io.specs.Output.{Adds, AddsPart}
 use Rattle.lw_cli.specs.declared.asked.Command.{Command}
 use Rattle.lw_cli.specs.Asked.{command_of, file_of}
 use Rattle.lw_cli.specs.Commands.{Outcome}

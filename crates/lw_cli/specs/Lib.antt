@@ -1,11 +1,9 @@
 pub mod Place
 pub mod Asked
-pub mod Lines
+pub mod AnswerLines
 pub mod Outcome
-pub mod Steps
 pub mod FindingLines
 pub mod Checked
-pub mod CheckSteps
 pub mod Commands
 pub mod Headline
-pub mod Certified
+pub mod Private

@@ -12,7 +12,7 @@ use Rattle.lw_cli.specs.declared.answer.Answer.TheVariants.{FileLimit, Syntax, T
 use Rattle.lw_cli.specs.declared.answer.SyntaxWhy.{SyntaxWhy}
 use Rattle.lw_cli.specs.declared.place.Place.{Place}
 use Rattle.lw_cli.specs.Place.{line_at, column_at}
-use Rattle.lw_cli.specs.Lines.{line_of, status_of}
+use Rattle.lw_cli.specs.AnswerLines.{line_of, status_of}
 
 -- the greatest number of bytes of a file that is read
 abbrev pub file_limit : ℕ

@@ -1,5 +1,5 @@
 ghost use Rattle.std.specs.Prelude.{◌≡◌, ◌≤◌, IfOk, string_bytes};
-ghost use Rattle.lw_cli.specs.Lines.{word_of, line_of, status_of};
+ghost use Rattle.lw_cli.specs.AnswerLines.{word_of, line_of, status_of};
 
 use crate::place::Place;
 use std::alloc::{AllocError, Global};

@@ -6,8 +6,8 @@ ghost use Rattle.lw_proof.specs.Pooled.{IsProofLive, proof_at};
 ghost use Rattle.lw_cert.specs.Sheet.{Sheet, Steps};
 ghost use Rattle.lw_cert.specs.Certificates.{IsSheetOf};
 ghost use Rattle.lw_cli.specs.Checked.{IsFinding, IsFindingOf, IsJudged};
-ghost use Rattle.lw_cli.specs.CheckSteps.{IsRefutation, IsTextFault};
-ghost use Rattle.lw_cert.specs.Faults.{IsFaultOf};
+ghost use Rattle.lw_cli.specs.Private.CheckSteps.{IsRefutation, IsTextFault};
+ghost use Rattle.lw_cert.specs.CertificateFaults.{IsFaultOf};
 ghost use Rattle.lw_cli.specs.Headline.{Answers, AnswersPart, IsUnsureOf};
 
 use crate::asked::{Command, FileName};

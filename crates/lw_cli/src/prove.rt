@@ -4,7 +4,7 @@ ghost use Rattle.lw_io.specs.Files.{IsSure};
 ghost use Rattle.lw_formula.specs.Tree.{tree_of};
 ghost use Rattle.lw_read.specs.Grammar.{IsFaultOf};
 ghost use Rattle.lw_cli.specs.Outcome.{IsAnswer, IsAnswerOf};
-ghost use Rattle.lw_cli.specs.Steps.{IsRefusal, IsDecision};
+ghost use Rattle.lw_cli.specs.Private.AnswerSteps.{IsRefusal, IsDecision};
 ghost use Rattle.lw_cli.specs.Headline.{Answers, AnswersPart, IsUnsureOf};
 
 use crate::answer::{Answer, SyntaxWhy};

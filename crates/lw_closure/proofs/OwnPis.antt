@@ -10,16 +10,16 @@ use Rattle.lw_formula.specs.Signs.{opposite}
 use Rattle.lw_formula.specs.Formula.{Formula, neg, conj, impl, nec, poss, is_modal, IsOperand, IsSubformula}
 use Rattle.lw_formula.specs.Signed.{Signed}
 use Rattle.lw_formula.specs.Components.{parts_of, guard_of}
-use Rattle.lw_formula.proofs.Subformulas.{IsSubformula-refl, IsSubformula-trans}
+use Rattle.lw_formula.proofs.SubformulaLists.{IsSubformula-refl, IsSubformula-trans}
 use Rattle.lw_pool.specs.Region.{tree_at}
-use Rattle.lw_pool.proofs.Below.{operand_within}
+use Rattle.lw_pool.proofs.SubformulasBelow.{operand_within}
 use Rattle.lw_proof.specs.Derivation.{is_nu, is_pi}
 use Rattle.lw_closure.specs.Mapping.{OfParts}
 use Rattle.lw_closure.specs.Table.{Table, entry_at, item_count, signed_of}
 use Rattle.lw_closure.specs.Keeps.{Keeps, IsOfClosure}
-use Rattle.lw_closure.proofs.Items.{guarded, of_closure}
-use Rattle.lw_closure.proofs.Mapped.{OfParts-imp, OfParts-map}
-use Rattle.lw_closure.proofs.Operands.{parts_operands}
+use Rattle.lw_closure.proofs.ItemFormulas.{guarded, of_closure}
+use Rattle.lw_closure.proofs.MappedComponents.{OfParts-imp, OfParts-map}
+use Rattle.lw_closure.proofs.OperandItems.{parts_operands}
 
 -- the sign under which a modal formula is a ν
 abbrev pub nu_sign : Formula → Sign

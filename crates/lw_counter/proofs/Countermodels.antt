@@ -14,13 +14,13 @@ use Rattle.lw_formula.specs.Signed.{Signed, SignedSet, flip, HoldsSigned}
 use Rattle.lw_formula.specs.Components.{parts_of}
 use Rattle.lw_proof.specs.System.{trees, nu_of}
 use Rattle.lw_proof.specs.Derivation.{has_cut, has_refl, is_nu, is_pi, is_modal_part}
-use Rattle.lw_proof.proofs.Means.{means_back}
+use Rattle.lw_proof.proofs.SignedMeaning.{means_back}
 use Rattle.lw_counter.specs.Fragment.{Fragment, world_at}
-use Rattle.lw_counter.specs.Paths.{has_links, IsEdge, Reaches, IsRelated}
+use Rattle.lw_counter.specs.FragmentPaths.{has_links, IsEdge, Reaches, IsRelated}
 use Rattle.lw_counter.specs.Open.{IsOpen}
 use Rattle.lw_counter.specs.Countermodel.{IsModelOf}
 use Rattle.lw_counter.specs.Laws.{OpenFragmentsAreModels}
-use Rattle.lw_counter.proofs.Paths.{reaches_join, reaches_within, edge_within}
+use Rattle.lw_counter.proofs.EdgePaths.{reaches_join, reaches_within, edge_within}
 
 -- without links an edge leads from a parent
 parent_edge : (L : Logic) (f : Fragment) → has_links L ≢ true → (w v : ℕ) → IsEdge L f w v → (world_at f v).parent ≡ Some w

@@ -1,8 +1,8 @@
-pub mod Paths
+pub mod EdgePaths
 pub mod Countermodels
-pub mod Lifts
-pub mod Forms
-pub mod Fragments
-pub mod Squares
-pub mod Edges
-pub mod Models
+pub mod FragmentFormulas
+pub mod WellFormedFragments
+pub mod FragmentChanges
+pub mod BitSquares
+pub mod EdgeSquares
+pub mod GrownModels

@@ -6,7 +6,7 @@ use Rattle.lw_formula.specs.Formula.{letter}
 use Rattle.lw_formula.specs.FiniteModel.{FiniteModel, IsWellFormed, Sees, HasFact}
 use Rattle.lw_formula.specs.Signed.{SignedSet}
 use Rattle.lw_counter.specs.Fragment.{Fragment}
-use Rattle.lw_counter.specs.Paths.{IsRelated}
+use Rattle.lw_counter.specs.FragmentPaths.{IsRelated}
 
 -- the model has the fragment's worlds in their order, the logic's relation between them, and the letters that are signed T in their labels
 pub record IsModelOf (L : Logic) (f : Fragment) (label : ℕ → SignedSet) (m : FiniteModel) : Type 0 where

@@ -1,7 +1,7 @@
 pub mod Fragment
-pub mod Paths
+pub mod FragmentPaths
 pub mod Open
 pub mod Countermodel
-pub mod Relation
 pub mod Laws
-pub mod Answered
+pub mod Answers
+pub mod Private

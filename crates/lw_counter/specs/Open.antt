@@ -6,7 +6,7 @@ use Rattle.lw_proof.specs.System.{Set, System}
 use Rattle.lw_proof.specs.Derivation.{has_refl, has_cut, is_modal_part, kept}
 use Rattle.lw_closure.specs.Unclosed.{IsUnclosed}
 use Rattle.lw_counter.specs.Fragment.{Fragment, IsFormed, world_at}
-use Rattle.lw_counter.specs.Paths.{IsEdge}
+use Rattle.lw_counter.specs.FragmentPaths.{IsEdge}
 
 -- world v is one that w surely sees: an edge leads there, or all worlds see all, in the logic with cuts
 abbrev pub IsOffered : Logic → Fragment → ℕ → ℕ → Type 0

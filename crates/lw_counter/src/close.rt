@@ -6,8 +6,8 @@ ghost use Rattle.lw_pool.specs.Region.{IsLive};
 ghost use Rattle.lw_closure.specs.Table.{item_count, signed_of};
 ghost use Rattle.lw_counter.specs.Countermodel.{IsModelOf};
 ghost use Rattle.lw_counter.specs.Fragment.{formulas_of, world_at, HasItemsOf, IsFormed};
-ghost use Rattle.lw_counter.specs.Paths.{IsEdge, IsRelated};
-ghost use Rattle.lw_counter.specs.Relation.{Joins, AddsFacts, AddsPairs, IsSquareOf, SetsBits};
+ghost use Rattle.lw_counter.specs.FragmentPaths.{IsEdge, IsRelated};
+ghost use Rattle.lw_counter.specs.Private.BuiltRelation.{Joins, AddsFacts, AddsPairs, IsSquareOf, SetsBits};
 
 use crate::fragment::Fragment;
 use crate::relation::Relation;

@@ -1,6 +1,6 @@
 ghost use Rattle.std.specs.Prelude.{◌≡◌, ℕ, ◌<◌, ◌↔◌, false, IsTrue, IfOk, ⊤};
-ghost use Rattle.lw_counter.specs.Paths.{Completed, Reaches};
-ghost use Rattle.lw_counter.specs.Relation.{Joins, IsSquareOf, SetsBits};
+ghost use Rattle.lw_counter.specs.FragmentPaths.{Completed, Reaches};
+ghost use Rattle.lw_counter.specs.Private.BuiltRelation.{Joins, IsSquareOf, SetsBits};
 
 use lw_formula::Logic;
 use std::alloc::{AllocError, Global};
@@ -15,7 +15,7 @@ pub(crate) struct Relation {
 
 impl Model for Relation {
     ghost use Rattle.std.specs.Prelude.{◌≡◌, ◌*◌, length};
-    ghost use Rattle.lw_counter.specs.Relation.{Square};
+    ghost use Rattle.lw_counter.specs.Private.BuiltRelation.{Square};
 
     ghost Value = { Square };
 

@@ -13,7 +13,7 @@ use std::process::Abort;
 use std::test::Fail;
 
 // Puts a world with one item in its label behind the others.
-#[tactic(auto, using(crate::proofs::Forms::items_more))]
+#[tactic(auto, using(crate::proofs::WellFormedFragments::items_more))]
 fn grow(fragment: &mut Fragment, parent: Option<usize>, item: usize) -> Result<(), AllocError>
     requires { ForSome parent (λ world. world < length fragment.old.worlds) }
     ensures count { OnOk result (length fragment.new.worlds ≡ length fragment.old.worlds + 1) }

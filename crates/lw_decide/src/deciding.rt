@@ -2,7 +2,7 @@ ghost use Rattle.std.specs.Prelude.{◌≡◌, ◌≤◌, IfErr, IfOk, OnOk};
 ghost use Rattle.lw_formula.specs.Formula.{subformula_count};
 ghost use Rattle.lw_pool.specs.Region.{tree_at, Grows, IsLive};
 ghost use Rattle.lw_closure.specs.Keeps.{Keeps};
-ghost use Rattle.lw_counter.specs.Answered.{IsAnswerTo};
+ghost use Rattle.lw_counter.specs.Answers.{IsAnswerTo};
 ghost use Rattle.lw_decide.specs.Decided.{TellsValidity};
 ghost use Rattle.lw_decide.specs.Fault.{IsFault};
 

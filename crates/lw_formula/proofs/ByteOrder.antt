@@ -13,8 +13,8 @@ use Rattle.std.proofs.lemmas.List.Sorted.{searchable_from_sorted}
 use Rattle.std.proofs.lemmas.Map.Lookups.{exact_bytes}
 use Rattle.lw_formula.specs.Formula.{Formula, letter, neg, conj, disj, impl, equi, nec, poss}
 use Rattle.lw_formula.specs.Variables.{AreInByteOrder, AreVariables, AddsVariables, IsGapFor}
-use Rattle.lw_formula.proofs.Lists.{member_at}
-use Rattle.lw_formula.proofs.Members.{Contains-nil, Contains-head, Contains-tail, Contains-cons_cases}
+use Rattle.lw_formula.proofs.ListTests.{member_at}
+use Rattle.lw_formula.proofs.ListMembers.{Contains-nil, Contains-head, Contains-tail, Contains-cons_cases}
 
 -- where a place stands beside another: before it, at it, or one behind a place that isn't before it
 data Beside (at : ℕ) (j : ℕ) : Type 0 where

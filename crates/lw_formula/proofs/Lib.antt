@@ -1,8 +1,8 @@
-pub mod Lists
-pub mod Truths
-pub mod Sameness
-pub mod Members
-pub mod Subformulas
-pub mod Revaluation
-pub mod OneWorld
+pub mod ListTests
+pub mod TruthTest
+pub mod SameFormulas
+pub mod ListMembers
+pub mod SubformulaLists
+pub mod RevaluedModels
+pub mod OneWorldModels
 pub mod ByteOrder

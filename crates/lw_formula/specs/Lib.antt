@@ -2,8 +2,8 @@ pub mod Name
 pub mod Logic
 pub mod Signs
 pub mod Formula
+pub mod Joint
 pub mod Variables
-pub mod Codes
 pub mod Tree
 pub mod FiniteModel
 pub mod Class
@@ -12,3 +12,4 @@ pub mod Validity
 pub mod Signed
 pub mod Components
 pub mod Laws
+pub mod Private

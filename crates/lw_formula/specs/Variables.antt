@@ -1,10 +1,11 @@
 -- The variables of a formula, and substitution for one of them.
-use Rattle.std.specs.Prelude.{◌≡◌, ℕ, ◌≤◌, ◌⊎◌, List, length, if◌then◌else◌, AllPairs, Contains, ◌↔◌}
+use Rattle.std.specs.Prelude.{◌≡◌, ℕ, ◌≤◌, ◌⊎◌, List, length, if◌then◌else◌, AllPairs, Contains, ◌↔◌, IsTrue}
 use Rattle.std.specs.List.{AllWithin}
 use Rattle.std.specs.Ordering.{nat_cmp}
 use Rattle.std.specs.Cmp.Lexicographic.{slice_cmp}
 use Rattle.std.specs.declared.cmp.Ordering.TheVariants.{Less}
 use Rattle.std.specs.Str.{bytes_eq}
+use Rattle.lw_formula.specs.Name.{is_name}
 use Rattle.lw_formula.specs.Formula.{Formula, letter, falsum, verum, neg, conj, disj, impl, equi, nec, poss}
 
 -- p is a variable of the formula
@@ -19,6 +20,10 @@ Occurs p (impl a b) = Occurs p a ⊎ Occurs p b
 Occurs p (equi a b) = Occurs p a ⊎ Occurs p b
 Occurs p (nec a) = Occurs p a
 Occurs p (poss a) = Occurs p a
+
+-- the variables of the formula are names, as those of the program's own formulas are
+abbrev pub HasNames : Formula → Type 0
+HasNames a = (p : List ℕ) → Occurs p a → IsTrue (is_name p)
 
 -- each name stands before those after it, so none stands twice
 abbrev pub AreInByteOrder : List (List ℕ) → Type 0

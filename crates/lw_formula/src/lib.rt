@@ -4,6 +4,7 @@
 
 mod chars;
 mod form;
+mod joint;
 mod laws;
 mod logic;
 mod name;
@@ -12,6 +13,7 @@ mod sign;
 
 pub use chars::Chars;
 pub use form::{Form, add_name};
+pub use joint::Joint;
 pub use laws::{
     no_logic_is_empty, substitution_keeps_validity, truth_depends_on_variables, truths_agree,
 };

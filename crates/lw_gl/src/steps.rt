@@ -1,6 +1,6 @@
 ghost use Rattle.lw_formula.specs.declared.logic.Logic.TheVariants.{GL};
-ghost use Rattle.lw_search.specs.Lacking.{goal_modals};
-ghost use Rattle.lw_gl.specs.Lacking.{by_lacking};
+ghost use Rattle.lw_search.specs.Private.LabelLack.{goal_modals};
+ghost use Rattle.lw_gl.specs.Private.LackedNus.{by_lacking};
 
 use lw_closure::{Closure, flip};
 use lw_search::StepRule;

@@ -1,3 +1,3 @@
-pub mod Serving
-pub mod Guarded
-pub mod Ranked
+pub mod GuardsServed
+pub mod GuardedPis
+pub mod GrzRanking

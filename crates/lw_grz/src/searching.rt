@@ -1,7 +1,7 @@
 ghost use Rattle.std.specs.Prelude.{◌≡◌, IfOk};
 ghost use Rattle.lw_pool.specs.Region.{tree_at};
 ghost use Rattle.lw_closure.specs.Keeps.{Keeps};
-ghost use Rattle.lw_counter.specs.Answered.{IsAnswerTo};
+ghost use Rattle.lw_counter.specs.Answers.{IsAnswerTo};
 
 use crate::steps::GuardedSteps;
 use lw_closure::Closure;

@@ -1,6 +1,6 @@
 ghost use Rattle.lw_formula.specs.declared.logic.Logic.TheVariants.{Grz};
-ghost use Rattle.lw_search.specs.Lacking.{goal_modals};
-ghost use Rattle.lw_grz.specs.Guards.{by_guards};
+ghost use Rattle.lw_search.specs.Private.LabelLack.{goal_modals};
+ghost use Rattle.lw_grz.specs.Private.LackedGuards.{by_guards};
 
 use lw_closure::Closure;
 use lw_search::StepRule;

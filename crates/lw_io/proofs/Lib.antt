@@ -1,2 +1,2 @@
-pub mod Entries
-pub mod Written
+pub mod MapEntries
+pub mod WrittenPieces

@@ -1,5 +1,5 @@
 pub mod Causes
 pub mod Files
-pub mod Written
+pub mod Output
 pub mod Memory
-pub mod Entries
+pub mod Private

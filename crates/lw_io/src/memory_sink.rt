@@ -1,9 +1,9 @@
 ghost use Rattle.std.specs.Prelude.{◌≡◌, ◌+◌, ◌≤◌, ◌↔◌, ◌++◌, length, vec_capacity, IsTrue, IsErr, IfOk, OnOk, OnErr};
 ghost use Rattle.std.specs.FinMap as finite;
 ghost use Rattle.lw_io.specs.Causes.{Rose};
-ghost use Rattle.lw_io.specs.Written.{Adds, AddsPart};
+ghost use Rattle.lw_io.specs.Output.{Adds, AddsPart};
 ghost use Rattle.lw_io.specs.Memory.{empty_sink, write_fails, after_write};
-ghost use Rattle.lw_io.specs.Entries.{keeps_of};
+ghost use Rattle.lw_io.specs.Private.MapEntries.{keeps_of};
 
 use super::count::count_one;
 use super::sink::{Failed, Sink};
@@ -27,7 +27,7 @@ pub struct MemorySink {
 impl Model for MemorySink {
     ghost use Rattle.std.specs.Prelude.{◌≤◌, length, vec_capacity};
     ghost use Rattle.lw_io.specs.Memory.{SinkState, sink_code};
-    ghost use Rattle.lw_io.specs.Entries.{keeps_of};
+    ghost use Rattle.lw_io.specs.Private.MapEntries.{keeps_of};
 
     ghost Value = { SinkState };
 

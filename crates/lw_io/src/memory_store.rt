@@ -3,7 +3,7 @@ ghost use Rattle.std.specs.FinMap as finite;
 ghost use Rattle.lw_io.specs.Causes.{Rose};
 ghost use Rattle.lw_io.specs.Files.{IsHeldPart, IsSure, bytes_at};
 ghost use Rattle.lw_io.specs.Memory.{empty_store, next_is_listed, fetch_fails, after_fetch};
-ghost use Rattle.lw_io.specs.Entries.{files_of};
+ghost use Rattle.lw_io.specs.Private.MapEntries.{files_of};
 
 use super::count::count_one;
 use super::store::{FetchFault, Store};
@@ -25,7 +25,7 @@ pub struct MemoryStore {
 
 impl Model for MemoryStore {
     ghost use Rattle.lw_io.specs.Memory.{StoreState, store_code};
-    ghost use Rattle.lw_io.specs.Entries.{files_of};
+    ghost use Rattle.lw_io.specs.Private.MapEntries.{files_of};
 
     ghost Value = { StoreState };
 

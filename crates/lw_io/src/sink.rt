@@ -1,6 +1,6 @@
 ghost use Rattle.std.specs.Prelude.{ℕ, ◌≤◌, List, Option, OnOk, OnErr};
 ghost use Rattle.lw_io.specs.Causes.{Rose};
-ghost use Rattle.lw_io.specs.Written.{Adds, AddsPart};
+ghost use Rattle.lw_io.specs.Output.{Adds, AddsPart};
 
 /// The outside failed to take a whole piece. The sink has counted it.
 #[derive(Clone, Copy, Debug, PartialEq, Eq)]

@@ -1,6 +1,6 @@
 ghost use Rattle.std.specs.Prelude.{◌≡◌, OnOk, OnErr};
 ghost use Rattle.std.specs.Io.KnownBytes.{Appends};
-ghost use Rattle.lw_io.specs.Written.{AppendsPart};
+ghost use Rattle.lw_io.specs.Output.{AppendsPart};
 
 use super::count::count_one;
 use super::sink::{Failed, Sink};

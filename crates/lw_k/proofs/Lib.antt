@@ -1,2 +1,2 @@
-pub mod Components
-pub mod Ranked
+pub mod ComponentDepths
+pub mod KRanking

@@ -1,1 +1,1 @@
-pub mod Depth
+pub mod Private

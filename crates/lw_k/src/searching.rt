@@ -1,8 +1,8 @@
 ghost use Rattle.std.specs.Prelude.{◌≡◌, ◌⊎◌, IfOk};
 ghost use Rattle.lw_pool.specs.Region.{tree_at};
 ghost use Rattle.lw_closure.specs.Keeps.{Keeps};
-ghost use Rattle.lw_counter.specs.Answered.{IsAnswerTo};
-ghost use Rattle.lw_k.specs.Depth.{logic_of};
+ghost use Rattle.lw_counter.specs.Answers.{IsAnswerTo};
+ghost use Rattle.lw_k.specs.Private.DepthLeft.{logic_of};
 
 use crate::steps::Steps;
 use lw_closure::Closure;

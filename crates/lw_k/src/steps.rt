@@ -1,4 +1,4 @@
-ghost use Rattle.lw_k.specs.Depth.{by_depth, goal_depth, logic_of};
+ghost use Rattle.lw_k.specs.Private.DepthLeft.{by_depth, goal_depth, logic_of};
 
 use lw_closure::Closure;
 use lw_search::StepRule;

@@ -1,7 +1,7 @@
-pub mod Additions
-pub mod Bounds
-pub mod Covers
-pub mod Frames
-pub mod Gaps
-pub mod Numbered
-pub mod Rows
+pub mod ModelAdditions
+pub mod BoundGrowth
+pub mod CoveredPairs
+pub mod FrameTests
+pub mod ListGaps
+pub mod RowsEndToEnd
+pub mod TruthRows

@@ -1,5 +1,3 @@
 pub mod Edits
-pub mod Ordered
 pub mod Bounds
-pub mod Cover
-pub mod Table
+pub mod Private

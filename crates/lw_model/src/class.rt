@@ -1,7 +1,7 @@
 ghost use Rattle.std.specs.Prelude.{◌≡◌, ℕ, ◌⊎◌, ◌↔◌, IsTrue};
 ghost use Rattle.lw_formula.specs.FiniteModel.{Sees};
 ghost use Rattle.lw_formula.specs.Class.{Class, HasFrame, IsReflexive, IsIrreflexive, IsTransitive, IsSymmetric, IsAntisymmetric};
-ghost use Rattle.lw_model.specs.Cover.{IsCovered, Passes, SeesAllOf};
+ghost use Rattle.lw_model.specs.Private.PairCover.{IsCovered, Passes, SeesAllOf};
 
 use crate::model::Model;
 use lw_formula::Logic;

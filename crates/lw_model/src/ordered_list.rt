@@ -1,6 +1,6 @@
 ghost use Rattle.std.specs.Prelude.{◌≡◌, ◌↔◌, List, [], length, All, Contains, insert, IsTrue, IfOk, IfSome, IfNone, OnOk, OnErr};
 ghost use Rattle.std.specs.List.Sorted.{IsStrictlySortedBy};
-ghost use Rattle.lw_model.specs.Ordered.{IsGapIn};
+ghost use Rattle.lw_model.specs.Private.OrderedRows.{IsGapIn};
 
 use crate::item::Item;
 use std::alloc::{AllocError, Global};

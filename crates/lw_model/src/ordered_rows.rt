@@ -2,7 +2,7 @@ ghost use Rattle.std.specs.Prelude.{◌≡◌, ℕ, ◌<◌, ◌⊎◌, ◌↔�
 ghost use Rattle.std.specs.List.{HoldsAt, slice_index_or};
 ghost use Rattle.std.specs.List.Sorted.{IsStrictlySortedBy};
 ghost use Rattle.lw_formula.specs.FiniteModel.{AreDistinct};
-ghost use Rattle.lw_model.specs.Ordered.{numbered, IsGapIn, IsGrown, IsPlace};
+ghost use Rattle.lw_model.specs.Private.OrderedRows.{numbered, IsGapIn, IsGrown, IsPlace};
 
 use crate::item::Item;
 use crate::ordered_list::OrderedList;
@@ -19,7 +19,7 @@ pub(crate) struct OrderedRows<T: Item> {
 impl<T: Item> Model for OrderedRows<T> {
     ghost use Rattle.std.specs.Prelude.{◌≡◌, ℕ, List, length};
     ghost use Rattle.lw_formula.specs.FiniteModel.{AreDistinct};
-    ghost use Rattle.lw_model.specs.Ordered.{numbered};
+    ghost use Rattle.lw_model.specs.Private.OrderedRows.{numbered};
 
     ghost Value = { List (ℕ × T) };
 

@@ -1,13 +1,14 @@
 ghost use Rattle.std.specs.Prelude.{◌≡◌, ℕ, ◌<◌, ◌↔◌, false, List, length, All, Contains, IsTrue, IfOk};
 ghost use Rattle.std.specs.List.{slice_index_or};
 ghost use Rattle.lw_formula.specs.Formula.{Formula, letter, neg, nec, poss};
+ghost use Rattle.lw_formula.specs.Joint as formulas;
 ghost use Rattle.lw_formula.specs.Truth.{IsTrueAt};
 ghost use Rattle.lw_pool.specs.Region.{tree_at, IsLive, AreChildrenBelow, tree_of_node};
-ghost use Rattle.lw_model.specs.Table.{IsRow, AreRows, joined, truth_table};
+ghost use Rattle.lw_model.specs.Private.TruthTable.{IsRow, AreRows, truth_table};
 
 use crate::model::Model;
 use crate::row::Row;
-use lw_formula::Name;
+use lw_formula::{Joint, Name};
 use lw_pool::{FormId, Node, Pool};
 use std::alloc::AllocError;
 
@@ -28,15 +29,6 @@ pub fn holds(model: &Model, world: usize, pool: &Pool, id: FormId) -> Result<boo
     Ok(row.at(world))
 }
 
-/// A connective between two formulas.
-#[derive(Clone, Copy)]
-enum Connective {
-    And,
-    Or,
-    Imp,
-    Iff,
-}
-
 // The row of a node's formula, from the rows of those below it.
 fn node_row(model: &Model, rows: &[Row], node: &Node) -> Result<Row, AllocError>
     requires below { AreChildrenBelow (length rows.now) node.now }
@@ -49,10 +41,10 @@ fn node_row(model: &Model, rows: &[Row], node: &Node) -> Result<Row, AllocError>
         Node::Bot => Row::new(model.allocator(), model.worlds(), false),
         Node::Top => Row::new(model.allocator(), model.worlds(), true),
         Node::Not(a) => negated_row(model, &rows[a.0]),
-        Node::And(a, b) => joined_row(model, Connective::And, &rows[a.0], &rows[b.0]),
-        Node::Or(a, b) => joined_row(model, Connective::Or, &rows[a.0], &rows[b.0]),
-        Node::Imp(a, b) => joined_row(model, Connective::Imp, &rows[a.0], &rows[b.0]),
-        Node::Iff(a, b) => joined_row(model, Connective::Iff, &rows[a.0], &rows[b.0]),
+        Node::And(a, b) => joined_row(model, Joint::And, &rows[a.0], &rows[b.0]),
+        Node::Or(a, b) => joined_row(model, Joint::Or, &rows[a.0], &rows[b.0]),
+        Node::Imp(a, b) => joined_row(model, Joint::Imp, &rows[a.0], &rows[b.0]),
+        Node::Iff(a, b) => joined_row(model, Joint::Iff, &rows[a.0], &rows[b.0]),
         Node::Nec(a) => box_row(model, &rows[a.0]),
         Node::Poss(a) => dia_row(model, &rows[a.0]),
     }
@@ -83,14 +75,14 @@ fn negated_row(model: &Model, of: &Row) -> Result<Row, AllocError>
 
 fn joined_row(
     model: &Model,
-    connective: Connective,
+    connective: Joint,
     left: &Row,
     right: &Row,
 ) -> Result<Row, AllocError>
     requires left { length left.now ≡ model.now.worlds }
     requires right { length right.now ≡ model.now.worlds }
     ensures long { IfOk result (λ row. length row ≡ model.now.worlds) }
-    ensures truth { IfOk result (λ row. (a b : Formula) → IsRow model.now a left.now → IsRow model.now b right.now → IsRow model.now (joined connective a b) row) }
+    ensures truth { IfOk result (λ row. (a b : Formula) → IsRow model.now a left.now → IsRow model.now b right.now → IsRow model.now (formulas.join connective a b) row) }
 {
     let mut row = Row::new(model.allocator(), model.worlds(), false)?;
     for world in 0..model.worlds() {
@@ -99,14 +91,14 @@ fn joined_row(
     Ok(row)
 }
 
-fn join(connective: Connective, left: bool, right: bool) -> bool
+fn join(connective: Joint, left: bool, right: bool) -> bool
     ensures { result ≡ truth_table connective left right }
 {
     match connective {
-        Connective::And => left && right,
-        Connective::Or => left || right,
-        Connective::Imp => !left || right,
-        Connective::Iff => left == right,
+        Joint::And => left && right,
+        Joint::Or => left || right,
+        Joint::Imp => !left || right,
+        Joint::Iff => left == right,
     }
 }
 

@@ -1,3 +1,2 @@
 pub mod Region
-pub mod Nodes
-pub mod Walk
+pub mod Private

@@ -1,7 +1,7 @@
 ghost use Rattle.std.specs.Prelude.{◌≡◌, List, length, min, IfOk};
 ghost use Rattle.lw_formula.specs.Formula.{Formula, depth};
 ghost use Rattle.lw_pool.specs.Region.{tree_at, IsLive, AreChildrenBelow, tree_of_node};
-ghost use Rattle.lw_pool.specs.Walk.{AreDepths};
+ghost use Rattle.lw_pool.specs.Private.IdWalk.{AreDepths};
 
 use crate::id::FormId;
 use crate::node::Node;

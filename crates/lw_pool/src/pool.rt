@@ -1,10 +1,10 @@
 ghost use Rattle.std.specs.Prelude.{◌≡◌, ◌<◌, ◌≤◌, List, [], length, take, OnErr, IfOk};
 ghost use Rattle.std.specs.List.{slice_index_or};
-ghost use Rattle.lw_formula.specs.Codes.{coded_formula};
+ghost use Rattle.lw_formula.specs.Private.FormulaCode.{coded_formula};
 ghost use Rattle.lw_formula.specs.FiniteModel.{AreDistinct};
 ghost use Rattle.lw_formula.specs.Formula.{Formula};
 ghost use Rattle.lw_pool.specs.Region.{tree_at, IsLive, AreChildrenBelow, tree_of_node, Grows, IsAt, IsMade, IsAbsent, AreIdsExact, AreOperandsBelow};
-ghost use Rattle.lw_pool.specs.Nodes.{trees, IsRegion};
+ghost use Rattle.lw_pool.specs.Private.NodeRegion.{trees, IsRegion};
 ghost use base.Stored.{coded_list};
 
 use crate::id::FormId;

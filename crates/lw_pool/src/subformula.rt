@@ -2,7 +2,7 @@ ghost use Rattle.std.specs.Prelude.{◌≡◌, ◌<◌, length, map, filter, vec
 ghost use Rattle.std.specs.List.{enumerate_from};
 ghost use Rattle.lw_formula.specs.Formula.{subformula_count};
 ghost use Rattle.lw_pool.specs.Region.{tree_at, IsLive, AreChildrenBelow, AreSubformulas, is_marked, AreMarks};
-ghost use Rattle.lw_pool.specs.Walk.{with_children};
+ghost use Rattle.lw_pool.specs.Private.IdWalk.{with_children};
 
 use crate::id::FormId;
 use crate::node::Node;

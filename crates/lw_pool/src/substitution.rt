@@ -1,7 +1,7 @@
 ghost use Rattle.std.specs.Prelude.{◌≤◌, length, IsTrue, IfOk};
 ghost use Rattle.lw_formula.specs.Variables.{replace};
 ghost use Rattle.lw_pool.specs.Region.{tree_at, IsLive, IsAt, Grows};
-ghost use Rattle.lw_pool.specs.Walk.{AreOperandsDone};
+ghost use Rattle.lw_pool.specs.Private.IdWalk.{AreOperandsDone};
 
 use crate::id::FormId;
 use crate::node::Node;

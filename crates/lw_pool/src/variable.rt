@@ -1,7 +1,7 @@
 ghost use Rattle.std.specs.Prelude.{IfOk, OnOk};
 ghost use Rattle.lw_formula.specs.Variables.{AreVariables, AreInByteOrder};
 ghost use Rattle.lw_pool.specs.Region.{tree_at, IsLive};
-ghost use Rattle.lw_pool.specs.Walk.{AddsOwnName};
+ghost use Rattle.lw_pool.specs.Private.IdWalk.{AddsOwnName};
 
 use crate::id::FormId;
 use crate::node::Node;

@@ -1,5 +1,5 @@
 -- What the rules have to know of signed formulas. The rules are stated once, over anything that tells this much.
-use Rattle.std.specs.Prelude.{Bool, true, false, ◌&&◌, Option}
+use Rattle.std.specs.Prelude.{Bool, true, false, ◌&&◌, IsTrue, Option}
 use Rattle.lw_formula.specs.declared.parts.Parts.{Parts}
 use Rattle.lw_formula.specs.declared.sign.Sign.{Sign}
 use Rattle.lw_formula.specs.declared.sign.Sign.TheVariants.{T, F}
@@ -12,6 +12,10 @@ use Rattle.lw_formula.specs.Components as components
 -- a set, as the test of what is in it
 abbrev pub Set : Type 0 → Type 0
 Set I = I → Bool
+
+-- all members of the first set are in the second
+abbrev pub IsWithin : {I : Type 0} → Set I → Set I → Type 0
+IsWithin {I} X Y = (s : I) → IsTrue (X s) → IsTrue (Y s)
 
 -- a kind of signed formulas, and what the rules have to know of each
 pub record System (I : Type 0) : Type 0 where

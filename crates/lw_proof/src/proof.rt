@@ -20,7 +20,7 @@ impl Model for Proof {
     ghost use Rattle.std.proofs.Common.{arith};
     ghost use Rattle.lw_pool.specs.declared.id.SignedId.{SignedId};
     ghost use Rattle.lw_proof.specs.Tree.{Tree, node, forest, lines};
-    ghost use Rattle.lw_proof.specs.Codes.{coded_tree, most_le-lines};
+    ghost use Rattle.lw_proof.specs.Private.TreeCode.{coded_tree, most_le-lines};
 
     ghost Value = { Tree SignedId };
 

@@ -1,12 +1,12 @@
-mod Lexed
-mod Accepts
-mod Sound
-pub mod Reached
-mod Named
-mod Faults
-mod Spelled
-mod Lexing
-mod Written
-mod Back
-mod Lengths
-mod Piecewise
+mod TokenSteps
+mod MachineAccepts
+mod MachineSound
+pub mod TokenByToken
+mod NameTests
+mod FirstFaults
+mod SpelledFormulas
+mod LexemeSteps
+mod PrintedTokens
+mod FaultlessTexts
+mod TextLengths
+mod PrinterPieces

@@ -7,11 +7,12 @@
 --     Pre  := "~" Pre | "box" Pre | "dia" Pre | Atom
 --     Atom := "true" | "false" | variable | "(" Equ ")"
 use Rattle.std.specs.Prelude.{◌≡◌, ℕ, suc, ◌+◌, ◌≤◌, List, [], ◌∷◌, ◌++◌, length, map, slice_index}
-use Rattle.lw_formula.specs.Formula.{Formula, letter, falsum, verum, neg, conj, disj, impl, equi, nec, poss}
+use Rattle.lw_formula.specs.Formula.{Formula, letter, falsum, verum, neg, nec, poss}
+use Rattle.lw_formula.specs.Joint.{join}
 use Rattle.lw_read.specs.declared.lexeme.Prefix.{Prefix}
 use Rattle.lw_read.specs.declared.lexeme.Prefix.TheVariants.{Not, Nec, Poss}
-use Rattle.lw_read.specs.declared.lexeme.Connective.{Connective}
-use Rattle.lw_read.specs.declared.lexeme.Connective.TheVariants.{And, Or, Imp, Iff}
+use Rattle.lw_formula.specs.declared.joint.Joint.{Joint}
+use Rattle.lw_formula.specs.declared.joint.Joint.TheVariants.{And, Or, Imp, Iff}
 use Rattle.lw_read.specs.declared.fault.ReadFault.{ReadFault}
 use Rattle.lw_read.specs.declared.fault.ReadFault.TheVariants.{Unexpected, Nested, Name, Memory}
 use Rattle.lw_read.specs.Tokens.{tokens_of}
@@ -19,18 +20,11 @@ use Rattle.lw_read.specs.Lexemes.{Lexeme, Variable, Truth, Falsity, Before, Betw
 use Rattle.lw_read.specs.Places.{Grammar, AreFine, IsUnexpected, IsTooLong, IsNested}
 
 -- the level of the grammar at which the connective stands: 1 for Equ to 4 for Con; 5 is Pre
-abbrev pub rank : Connective → ℕ
+abbrev pub rank : Joint → ℕ
 rank Iff = 1
 rank Imp = 2
 rank Or = 3
 rank And = 4
-
--- the formula of two operands
-abbrev pub join : Connective → Formula → Formula → Formula
-join And a b = conj a b
-join Or a b = disj a b
-join Imp a b = impl a b
-join Iff a b = equi a b
 
 -- the formula of one operand
 abbrev pub apply : Prefix → Formula → Formula
@@ -48,7 +42,7 @@ pub data Reads : ℕ → List Lexeme → Formula → List Lexeme → Type 0 wher
       c ≡ apply sign a → Reads 5 ts a rest → Reads n (Before sign ∷ ts) c rest
   bracketed : {n : ℕ} {ts rest : List Lexeme} {a : Formula} →
       Reads 1 ts a (Close ∷ rest) → Reads n (Open ∷ ts) a rest
-  joined : {n : ℕ} {ts mid rest : List Lexeme} {a b c : Formula} (sign : Connective) → n ≤ rank sign →
+  joined : {n : ℕ} {ts mid rest : List Lexeme} {a b c : Formula} (sign : Joint) → n ≤ rank sign →
       c ≡ join sign a b → Reads (rank sign + 1) ts a (Between sign ∷ mid) → Reads (rank sign) mid b rest →
       Reads n ts c rest
 

@@ -1,8 +1,6 @@
 -- What holds of reading and printing as a whole.
-use Rattle.std.specs.Prelude.{◌≡◌, ℕ, ◌≤◌, List, IsTrue, All}
+use Rattle.std.specs.Prelude.{◌≡◌, ℕ, ◌≤◌, List, All}
 use Rattle.lw_formula.specs.Formula.{Formula}
-use Rattle.lw_formula.specs.Name.{is_name}
-use Rattle.lw_formula.specs.Variables.{Occurs}
 use Rattle.lw_read.specs.declared.fault.ReadFault.{ReadFault}
 use Rattle.lw_read.specs.declared.fault.ReadFault.TheVariants.{Memory}
 use Rattle.lw_read.specs.Lexemes.{Lexeme, lexemes_of}
@@ -17,10 +15,6 @@ HasOneTree ts = (a b : Formula) → IsFormula ts a → IsFormula ts b → a ≡ 
 -- a text that reads as a formula has no fault, so it is read but for want of memory
 abbrev pub HasOneAnswer : List ℕ → Type 0
 HasOneAnswer text = (a : Formula) → ReadsAs text a → (fault : ReadFault) → IsFaultOf text fault → fault ≡ Memory
-
--- the letters of a formula are names
-abbrev pub HasNames : Formula → Type 0
-HasNames a = (p : List ℕ) → Occurs p a → IsTrue (is_name p)
 
 -- the text of a formula is one of the grammar, with its tree, and has no fault where no more constructs are
 -- unfinished at any token than may be

@@ -8,8 +8,8 @@ use Rattle.lw_read.specs.declared.lexer.TokenKind.{TokenKind}
 use Rattle.lw_read.specs.declared.lexer.TokenKind.TheVariants.{Word, Number, Text, Symbol, LongWord, BigNumber, Bad, Stop}
 use Rattle.lw_read.specs.declared.lexeme.Prefix.{Prefix}
 use Rattle.lw_read.specs.declared.lexeme.Prefix.TheVariants.{Not, Nec, Poss}
-use Rattle.lw_read.specs.declared.lexeme.Connective.{Connective}
-use Rattle.lw_read.specs.declared.lexeme.Connective.TheVariants.{And, Or, Imp, Iff}
+use Rattle.lw_formula.specs.declared.joint.Joint.{Joint}
+use Rattle.lw_formula.specs.declared.joint.Joint.TheVariants.{And, Or, Imp, Iff}
 use Rattle.lw_read.specs.Tokens.{tokens_of}
 
 -- a variable, `true`, `false`, one of `~ box dia`, one of `& v -> <->`, a bracket, the end of the text, or what
@@ -19,7 +19,7 @@ pub data Lexeme : Type 0 where
   Truth : Lexeme
   Falsity : Lexeme
   Before : (sign : Prefix) → Lexeme
-  Between : (sign : Connective) → Lexeme
+  Between : (sign : Joint) → Lexeme
   Open : Lexeme
   Close : Lexeme
   End : Lexeme

@@ -2,9 +2,6 @@ pub mod Tokens
 pub mod Lexemes
 pub mod Places
 pub mod Grammar
-pub mod Machine
 pub mod Laws
-pub mod Views
 pub mod Text
-pub mod Measures
-pub mod Pieces
+pub mod Private

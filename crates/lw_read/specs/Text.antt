@@ -1,7 +1,7 @@
 -- The printed text of a formula: the fewest brackets with which it reads back.
 use Rattle.std.specs.Prelude.{ℕ, nat_lt, if◌then◌else◌, List, ◌++◌, codes}
-use Rattle.lw_read.specs.declared.lexeme.Connective.{Connective}
-use Rattle.lw_read.specs.declared.lexeme.Connective.TheVariants.{And, Or, Imp, Iff}
+use Rattle.lw_formula.specs.declared.joint.Joint.{Joint}
+use Rattle.lw_formula.specs.declared.joint.Joint.TheVariants.{And, Or, Imp, Iff}
 use Rattle.lw_formula.specs.Formula.{Formula, letter, falsum, verum, neg, conj, disj, impl, equi, nec, poss}
 
 -- how tightly the main connective of a formula binds: `<->` least, `&` most, and 5 where it has none
@@ -18,7 +18,7 @@ tightness (nec a) = 5
 tightness (poss a) = 5
 
 -- a connective with the spaces round it
-abbrev pub sign_text : Connective → List ℕ
+abbrev pub sign_text : Joint → List ℕ
 sign_text And = codes " & "
 sign_text Or = codes " v "
 sign_text Imp = codes " -> "

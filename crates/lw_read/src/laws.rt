@@ -1,7 +1,8 @@
 ghost use Rattle.std.specs.Prelude.{ℕ, List};
 ghost use Rattle.lw_formula.specs.Formula.{Formula};
 ghost use Rattle.lw_read.specs.Lexemes.{Lexeme};
-ghost use Rattle.lw_read.specs.Laws.{HasOneTree, HasOneAnswer, HasNames, ReadsBack};
+ghost use Rattle.lw_formula.specs.Variables.{HasNames};
+ghost use Rattle.lw_read.specs.Laws.{HasOneTree, HasOneAnswer, ReadsBack};
 
 /// Law: a text has exactly one tree.
 pub fn one_tree()

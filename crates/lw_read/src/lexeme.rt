@@ -1,10 +1,11 @@
 ghost use Rattle.std.specs.Prelude.{◌≡◌};
 ghost use Rattle.lw_read.specs.Lexemes.{kind_lexeme, word_lexeme, symbol_lexeme};
 ghost use Rattle.lw_read.specs.Grammar.{rank};
-ghost use Rattle.lw_read.specs.Views.{lexeme};
+ghost use Rattle.lw_read.specs.Private.ReaderViews.{lexeme};
 ghost use Rattle.lw_read.specs.Text.{sign_text};
 
 use crate::lexer::TokenKind;
+use lw_formula::Joint;
 
 /// What stands before its operand.
 #[derive(Clone, Copy)]
@@ -14,15 +15,6 @@ pub enum Prefix {
     Poss,
 }
 
-/// What stands between its operands.
-#[derive(Clone, Copy)]
-pub enum Connective {
-    And,
-    Or,
-    Imp,
-    Iff,
-}
-
 /// What a token is in a formula. A `Word` may be a variable.
 #[derive(Clone, Copy)]
 pub enum Part {
@@ -30,7 +22,7 @@ pub enum Part {
     Truth,
     Falsity,
     Before(Prefix),
-    Between(Connective),
+    Between(Joint),
     Open,
     Close,
     End,
@@ -63,7 +55,7 @@ fn word_part(word: &[u8]) -> Part
     } else if word == b"dia".as_slice() {
         Part::Before(Prefix::Poss)
     } else if word == b"v".as_slice() {
-        Part::Between(Connective::Or)
+        Part::Between(Joint::Or)
     } else {
         Part::Word
     }
@@ -76,11 +68,11 @@ fn symbol_part(symbol: &[u8]) -> Part
     if symbol == b"~".as_slice() {
         Part::Before(Prefix::Not)
     } else if symbol == b"&".as_slice() {
-        Part::Between(Connective::And)
+        Part::Between(Joint::And)
     } else if symbol == b"->".as_slice() {
-        Part::Between(Connective::Imp)
+        Part::Between(Joint::Imp)
     } else if symbol == b"<->".as_slice() {
-        Part::Between(Connective::Iff)
+        Part::Between(Joint::Iff)
     } else if symbol == b"(".as_slice() {
         Part::Open
     } else if symbol == b")".as_slice() {
@@ -91,25 +83,25 @@ fn symbol_part(symbol: &[u8]) -> Part
 }
 
 /// How tightly the connective binds: 1 for `<->` to 4 for `&`.
-pub fn rank(sign: Connective) -> u8
+pub fn rank(sign: Joint) -> u8
     ensures { result ≡ rank sign }
 {
     match sign {
-        Connective::Iff => 1,
-        Connective::Imp => 2,
-        Connective::Or => 3,
-        Connective::And => 4,
+        Joint::Iff => 1,
+        Joint::Imp => 2,
+        Joint::Or => 3,
+        Joint::And => 4,
     }
 }
 
 /// The connective with the spaces round it.
-pub fn sign_text(sign: Connective) -> &'static str
+pub fn sign_text(sign: Joint) -> &'static str
     ensures { result.now ≡ sign_text sign }
 {
     match sign {
-        Connective::And => " & ",
-        Connective::Or => " v ",
-        Connective::Imp => " -> ",
-        Connective::Iff => " <-> ",
+        Joint::And => " & ",
+        Joint::Or => " v ",
+        Joint::Imp => " -> ",
+        Joint::Iff => " <-> ",
     }
 }

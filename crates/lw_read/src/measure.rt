@@ -1,11 +1,13 @@
 ghost use Rattle.std.specs.Prelude.{◌≡◌, ◌+◌, List, length, min, IfOk};
 ghost use Rattle.lw_formula.specs.Formula.{Formula};
 ghost use Rattle.lw_pool.specs.Region.{tree_at, tree_of_node, IsLive, AreChildrenBelow};
-ghost use Rattle.lw_read.specs.Grammar.{rank, join};
+ghost use Rattle.lw_formula.specs.Joint.{join};
+ghost use Rattle.lw_read.specs.Grammar.{rank};
 ghost use Rattle.lw_read.specs.Text.{text_of, operand_text, modal_operand_text};
-ghost use Rattle.lw_read.specs.Measures.{IsMeasure, AreMeasures};
+ghost use Rattle.lw_read.specs.Private.TextMeasures.{IsMeasure, AreMeasures};
 
-use crate::lexeme::{Connective, rank, sign_text};
+use crate::lexeme::{rank, sign_text};
+use lw_formula::Joint;
 use lw_pool::{FormId, Node, Pool};
 use std::alloc::{AllocError, Global};
 
@@ -42,10 +44,10 @@ fn node_measure(measures: &[Measure], node: &Node) -> Measure
         Node::Top => leaf(4),
         Node::Not(a) => prefixed(1, operand_length(measures[a.0], 5)),
         Node::Nec(a) | Node::Poss(a) => prefixed(3, modal_operand_length(measures[a.0])),
-        Node::And(a, b) => joined(Connective::And, measures[a.0], measures[b.0]),
-        Node::Or(a, b) => joined(Connective::Or, measures[a.0], measures[b.0]),
-        Node::Imp(a, b) => joined(Connective::Imp, measures[a.0], measures[b.0]),
-        Node::Iff(a, b) => joined(Connective::Iff, measures[a.0], measures[b.0]),
+        Node::And(a, b) => joined(Joint::And, measures[a.0], measures[b.0]),
+        Node::Or(a, b) => joined(Joint::Or, measures[a.0], measures[b.0]),
+        Node::Imp(a, b) => joined(Joint::Imp, measures[a.0], measures[b.0]),
+        Node::Iff(a, b) => joined(Joint::Iff, measures[a.0], measures[b.0]),
     }
 }
 
@@ -69,7 +71,7 @@ fn prefixed(sign: usize, operand: usize) -> Measure
 }
 
 // A connective between operands.
-fn joined(sign: Connective, left: Measure, right: Measure) -> Measure
+fn joined(sign: Joint, left: Measure, right: Measure) -> Measure
     ensures length { (a b : Formula) → IsMeasure usize.MAX a left → IsMeasure usize.MAX b right
         → result.length ≡ min (length (text_of (join sign a b))) usize.MAX }
     ensures tightness { result.tightness ≡ rank sign }

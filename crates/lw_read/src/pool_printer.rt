@@ -3,11 +3,12 @@ ghost use Rattle.lw_formula.specs.Formula.{Formula};
 ghost use Rattle.lw_pool.specs.Region.{tree_at, tree_of_node, IsLive};
 ghost use Rattle.lw_read.specs.Text.{text_of, tightness};
 ghost use Rattle.lw_read.specs.Grammar.{rank};
-ghost use Rattle.lw_read.specs.Pieces.{IsLivePiece, WritesPiece, node_head, node_tail};
+ghost use Rattle.lw_read.specs.Private.PrinterPieces.{IsLivePiece, WritesPiece, node_head, node_tail};
 
-use crate::lexeme::{Connective, rank, sign_text};
+use crate::lexeme::{rank, sign_text};
 use crate::measure::text_length;
 use crate::print_fault::PrintFault;
+use lw_formula::Joint;
 use lw_pool::{FormId, Node, Pool};
 use std::alloc::{AllocError, Global};
 
@@ -22,7 +23,7 @@ pub enum Piece {
     /// The operand of `box` or `dia`.
     ModalOperand(FormId),
     /// A connective with its spaces.
-    Sign(Connective),
+    Sign(Joint),
     /// A closing bracket.
     Close,
 }
@@ -130,17 +131,17 @@ fn write_node(node: &Node, out: &mut Vec<u8>, stack: &mut Vec<Piece>) -> Result<
             out.extend_from_slice(b"dia")?;
             stack.push(Piece::ModalOperand(*a))?;
         }
-        Node::And(a, b) => push_operands(Connective::And, *a, *b, stack)?,
-        Node::Or(a, b) => push_operands(Connective::Or, *a, *b, stack)?,
-        Node::Imp(a, b) => push_operands(Connective::Imp, *a, *b, stack)?,
-        Node::Iff(a, b) => push_operands(Connective::Iff, *a, *b, stack)?,
+        Node::And(a, b) => push_operands(Joint::And, *a, *b, stack)?,
+        Node::Or(a, b) => push_operands(Joint::Or, *a, *b, stack)?,
+        Node::Imp(a, b) => push_operands(Joint::Imp, *a, *b, stack)?,
+        Node::Iff(a, b) => push_operands(Joint::Iff, *a, *b, stack)?,
     }
     Ok(())
 }
 
 // Puts two operands and the connective between them on the stack.
 fn push_operands(
-    sign: Connective,
+    sign: Joint,
     left: FormId,
     right: FormId,
     stack: &mut Vec<Piece>,

@@ -1,19 +1,20 @@
 ghost use Rattle.std.specs.Prelude.{◌≡◌, ℕ, ◌≤◌, nat_lt, false, List, length, IfOk, IfErr, OnOk, ◌∷◌};
 ghost use Rattle.std.specs.List.{list_all};
 ghost use Rattle.lw_formula.specs.Formula.{Formula};
+ghost use Rattle.lw_formula.specs.Joint.{join};
 ghost use Rattle.lw_formula.specs.Tree.{tree_of};
 ghost use Rattle.lw_formula.specs.Name.{is_word_byte};
 ghost use Rattle.lw_read.specs.Tokens.{tokens_of};
 ghost use Rattle.lw_read.specs.Lexemes.{lexeme_of, other_lexeme, is_long};
 ghost use Rattle.lw_read.specs.Places.{nesting_limit};
-ghost use Rattle.lw_read.specs.Grammar.{join, apply, ReadsAs, IsFaultOf};
-ghost use Rattle.lw_read.specs.Machine.{Frame, State, finish, frame_rank, reduce, begin, go_on, step, height};
-ghost use Rattle.lw_read.specs.Views.{lexeme, frame, frames, top_rank, state, IsShortVariable, Keeps, Refuses};
+ghost use Rattle.lw_read.specs.Grammar.{apply, ReadsAs, IsFaultOf};
+ghost use Rattle.lw_read.specs.Private.FormulaMachine.{Frame, State, finish, frame_rank, reduce, begin, go_on, step, height};
+ghost use Rattle.lw_read.specs.Private.ReaderViews.{lexeme, frame, frames, top_rank, state, IsShortVariable, Keeps, Refuses};
 
 use crate::fault::ReadFault;
-use crate::lexeme::{Connective, Part, Prefix, part_of, rank};
+use crate::lexeme::{Part, Prefix, part_of, rank};
 use crate::lexer::{Token, is_word_byte, tokens};
-use lw_formula::{Form, Name, NameFault};
+use lw_formula::{Form, Joint, Name, NameFault};
 use std::alloc::{AllocError, Global};
 
 /// How many constructs may be unfinished at once.
@@ -26,7 +27,7 @@ const LONGEST_NAME: usize = 64;
 #[derive(Drop)]
 pub enum Unfinished {
     Prefixed(Prefix),
-    Left(Connective, Form),
+    Left(Joint, Form),
     Bracket,
 }
 
@@ -62,16 +63,16 @@ fn applied(alloc: Global, sign: Prefix, operand: Form) -> Result<Form, AllocErro
 }
 
 // The formula of the sign and its operands.
-fn joined(alloc: Global, sign: Connective, left: Form, right: Form) -> Result<Form, AllocError>
+fn joined(alloc: Global, sign: Joint, left: Form, right: Form) -> Result<Form, AllocError>
     ensures { IfOk result (λ form. tree_of form ≡ join sign (tree_of left) (tree_of right)) }
 {
     let left = Box::new(alloc, left)?;
     let right = Box::new(alloc, right)?;
     Ok(match sign {
-        Connective::And => Form::And(left, right),
-        Connective::Or => Form::Or(left, right),
-        Connective::Imp => Form::Imp(left, right),
-        Connective::Iff => Form::Iff(left, right),
+        Joint::And => Form::And(left, right),
+        Joint::Or => Form::Or(left, right),
+        Joint::Imp => Form::Imp(left, right),
+        Joint::Iff => Form::Iff(left, right),
     })
 }
 
@@ -123,7 +124,7 @@ fn reduced(
 }
 
 // Whether the word is a variable of too many bytes.
-#[tactic(auto, using(crate::proofs::Named::is_long_is))]
+#[tactic(auto, using(crate::proofs::NameTests::is_long_is))]
 fn is_long_variable(word: &[u8]) -> bool
     ensures { result ≡ is_long (other_lexeme word.now) }
 {

@@ -3,7 +3,7 @@ use Rattle.std.proofs.Common.{◌≡◌, ℕ, ◌-◌, ◌*◌, ◌<◌, ◌≤�
 use Rattle.std.proofs.lemmas.Bool.{cases_lt}
 use Rattle.std.proofs.lemmas.List.{length-replicate, get_or_past, length_push, get_or_push, length-take-le, get_or-take, get_or-set_same, get_or-set_other}
 use Rattle.std.proofs.lemmas.List.Elements.{All-get_or}
-use Rattle.lw_rows.specs.Region.{Region, IsRegion, empty_row, last_row, with_bit}
+use Rattle.lw_rows.specs.RowStack.{Region, IsRegion, empty_row, last_row, with_bit}
 
 module _ (r : Region) where
   -- the last row has as many bits as its words

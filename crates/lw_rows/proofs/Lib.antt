@@ -1,4 +1,4 @@
-mod Bits
-mod Places
-mod Stored
+mod WordBits
+mod RowPlaces
+mod StoredRows
 pub mod LastRow

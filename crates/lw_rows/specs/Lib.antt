@@ -1,2 +1,2 @@
-pub mod Region
-pub mod Words
+pub mod RowStack
+pub mod Private

@@ -1,5 +1,5 @@
 ghost use Rattle.std.specs.Prelude.{◌≡◌, ◌+◌, ◌-◌, ◌*◌, ◌<◌, ◌≤◌, [], ◌∷◌, ◌++◌, true, false, length, take, max, OnOk, OnErr};
-ghost use Rattle.lw_rows.specs.Region.{IsRegion, empty_row, last_row, bit_in, with_bit};
+ghost use Rattle.lw_rows.specs.RowStack.{IsRegion, empty_row, last_row, bit_in, with_bit};
 
 use super::row_mark::RowMark;
 use super::words::{push_again, push_zeros};
@@ -19,8 +19,8 @@ pub struct Rows {
 
 impl Model for Rows {
     ghost use Rattle.std.specs.Prelude.{◌≡◌, ◌+◌, ◌*◌, ◌≤◌, length, vec_capacity};
-    ghost use Rattle.lw_rows.specs.Region.{Region, region_code};
-    ghost use Rattle.lw_rows.specs.Words.{rows_of};
+    ghost use Rattle.lw_rows.specs.RowStack.{Region, region_code};
+    ghost use Rattle.lw_rows.specs.Private.RowWords.{rows_of};
 
     ghost Value = { Region };
 

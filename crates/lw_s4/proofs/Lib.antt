@@ -1,2 +1,2 @@
-pub mod Serving
-pub mod Ranked
+pub mod HistoryServed
+pub mod S4Ranking

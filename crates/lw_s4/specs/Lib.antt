@@ -1,3 +1,3 @@
 pub mod History
 pub mod Laws
-pub mod Rank
+pub mod Private

@@ -1,5 +1,5 @@
 ghost use Rattle.lw_formula.specs.declared.logic.Logic.TheVariants.{S4};
-ghost use Rattle.lw_s4.specs.Rank.{by_history, square_of_modals};
+ghost use Rattle.lw_s4.specs.Private.HistoryRank.{by_history, square_of_modals};
 
 use lw_closure::Closure;
 use lw_search::StepRule;

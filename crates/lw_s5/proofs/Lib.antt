@@ -1,4 +1,4 @@
-pub mod Listed
-pub mod Labels
-pub mod Children
-pub mod Around
+pub mod ItemLists
+pub mod DecidedLabels
+pub mod ChildSeeds
+pub mod RootFragments

@@ -1,1 +1,1 @@
-pub mod Rooted
+pub mod Private

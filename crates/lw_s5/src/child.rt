@@ -6,7 +6,7 @@ ghost use Rattle.lw_closure.specs.Table.{entry_at, item_count};
 ghost use Rattle.lw_sat.specs.Course.{label};
 ghost use Rattle.lw_sat.specs.Sets.{among};
 ghost use Rattle.lw_search.specs.Step as step;
-ghost use Rattle.lw_s5.specs.Rooted.{HasLabel, IsChild, IsDecidedBy, IsModalAlike, IsObstacle, IsUndecided};
+ghost use Rattle.lw_s5.specs.Private.RootedSearch.{HasLabel, IsChild, IsDecidedBy, IsModalAlike, IsObstacle, IsUndecided};
 
 use crate::label::{decides, is_modal, items};
 use crate::obstacle::Obstacle;

@@ -4,7 +4,7 @@ ghost use Rattle.lw_proof.specs.Derivation.{is_modal_part};
 ghost use Rattle.lw_closure.specs.Table.{entry_at, item_count};
 ghost use Rattle.lw_sat.specs.Course.{label};
 ghost use Rattle.lw_sat.specs.Sets.{among};
-ghost use Rattle.lw_s5.specs.Rooted.{decides, HasLabel};
+ghost use Rattle.lw_s5.specs.Private.RootedSearch.{decides, HasLabel};
 
 use lw_closure::Closure;
 use lw_formula::Parts;

@@ -4,7 +4,7 @@ ghost use Rattle.lw_formula.specs.declared.logic.Logic.TheVariants.{S5};
 ghost use Rattle.lw_formula.specs.declared.parts.Parts.TheVariants.{Pi};
 ghost use Rattle.lw_closure.specs.Table.{entry_at, item_count};
 ghost use Rattle.lw_sat.specs.Course.{label};
-ghost use Rattle.lw_s5.specs.Rooted.{HasLabel, IsInWorld, IsModalAlike, IsObstacle, Surrounds};
+ghost use Rattle.lw_s5.specs.Private.RootedSearch.{HasLabel, IsInWorld, IsModalAlike, IsObstacle, Surrounds};
 
 use crate::child::child;
 use crate::label::items;

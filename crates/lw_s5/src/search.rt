@@ -3,10 +3,10 @@ ghost use Rattle.lw_formula.specs.declared.logic.Logic.TheVariants.{S5};
 ghost use Rattle.lw_pool.specs.Region.{tree_at};
 ghost use Rattle.lw_closure.specs.Keeps.{Keeps};
 ghost use Rattle.lw_closure.specs.Table.{item_count};
-ghost use Rattle.lw_counter.specs.Answered.{IsAnswerTo};
+ghost use Rattle.lw_counter.specs.Answers.{IsAnswerTo};
 ghost use Rattle.lw_sat.specs.Sets.{among};
 ghost use Rattle.lw_search.specs.Outcome.{IsOutcome};
-ghost use Rattle.lw_s5.specs.Rooted.{IsModalAlike};
+ghost use Rattle.lw_s5.specs.Private.RootedSearch.{IsModalAlike};
 
 use crate::obstacle::Obstacle;
 use crate::root::surround;

@@ -4,7 +4,7 @@ ghost use Rattle.lw_pool.specs.Region.{IsLive};
 ghost use Rattle.lw_proof.specs.System.{Set};
 ghost use Rattle.lw_sat.specs.Course.{IsUnderWay};
 ghost use Rattle.lw_sat.specs.Saturated.{every};
-ghost use Rattle.lw_s5.specs.Rooted.{HasLabel};
+ghost use Rattle.lw_s5.specs.Private.RootedSearch.{HasLabel};
 
 use crate::label::{decides, is_modal, items};
 use crate::search_s5;

@@ -1,10 +1,9 @@
 -- Proofs whose principals are items, and which items they use.
 use Rattle.std.specs.Prelude.{◌≡◌, ℕ, ◌<◌}
 use Rattle.lw_pool.specs.declared.id.SignedId.{SignedId}
-use Rattle.lw_proof.specs.System.{Set}
+use Rattle.lw_proof.specs.System.{Set, IsWithin}
 use Rattle.lw_proof.specs.Tree.{Tree, map_tree, EachPrincipal}
 use Rattle.lw_proof.specs.Lean.{Grows}
-use Rattle.lw_proof.proofs.Larger.{IsWithin}
 use Rattle.lw_closure.specs.Table.{Table, item_count, item_at}
 use Rattle.lw_closure.specs.Items.{items, ItemDerives}
 

@@ -1,10 +1,9 @@
 -- What callers see of a saturation.
 use Rattle.std.specs.Prelude.{◌≡◌, ℕ, ◌≤◌, Bool, true, false, IsTrue, Option, Some, None, List, ⊤}
 use Rattle.lw_pool.specs.declared.id.SignedId.{SignedId}
-use Rattle.lw_proof.specs.System.{Set}
+use Rattle.lw_proof.specs.System.{Set, IsWithin}
 use Rattle.lw_proof.specs.Tree.{Tree}
 use Rattle.lw_proof.specs.Lean.{steps}
-use Rattle.lw_proof.proofs.Larger.{IsWithin}
 use Rattle.lw_closure.specs.Table.{Table}
 use Rattle.lw_closure.specs.Unclosed.{IsUnclosedLabel}
 use Rattle.lw_sat.specs.declared.board.Board.{Board}
@@ -15,7 +14,7 @@ use Rattle.lw_sat.specs.declared.saturation.State.{State}
 use Rattle.lw_sat.specs.declared.saturation.State.TheVariants.{Working, Waiting, Closed, Answered, Failed}
 use Rattle.lw_sat.specs.declared.saturation.Saturation.{Saturation}
 use Rattle.lw_sat.specs.Closing.{Closes}
-use Rattle.lw_sat.specs.Path.{root, most_steps, IsClosedAt}
+use Rattle.lw_sat.specs.SeedPath.{root, most_steps, IsClosedAt}
 use Rattle.lw_sat.specs.Saturated.{room, IsAt}
 use Rattle.lw_sat.specs.Sets.{top}
 

@@ -1,7 +1,7 @@
 pub mod Sets
 pub mod Closing
 pub mod Moves
-pub mod Path
-pub mod Working
+pub mod SeedPath
 pub mod Saturated
 pub mod Course
+pub mod Private

@@ -11,7 +11,7 @@ use Rattle.lw_sat.specs.declared.frame.Frame.{Frame}
 use Rattle.lw_sat.specs.declared.round.Round.{Round}
 use Rattle.lw_sat.specs.declared.round.Round.TheVariants.{Moved, Quiet, Done}
 use Rattle.lw_sat.specs.Sets.{top, IsOfItems}
-use Rattle.lw_sat.specs.Path.{Spot, root, spot_of, Chain, IsBoard, IsClosedAt, IsWide, most_steps, room_at}
+use Rattle.lw_sat.specs.SeedPath.{Spot, root, spot_of, Chain, IsBoard, IsClosedAt, IsWide, most_steps, room_at}
 
 -- the frames lead from the seed X to the label, and the test holds of it and of all that waits
 pub record IsAt (t : Table) (X : Set ℕ) (test : Set ℕ → Bool) (frames : List Frame) (b : Board) : Type 0 where

@@ -3,7 +3,7 @@ use Rattle.std.specs.Prelude.{◌≡◌, ℕ, zero, suc, ◌+◌, ◌-◌, ◌*�
 use Rattle.std.specs.List.{list_any, slice_index_or}
 use Rattle.lw_proof.specs.System.{Set}
 use Rattle.lw_closure.specs.Table.{Table, item_count}
-use Rattle.lw_rows.specs.Region.{Region, IsRegion, bit_in}
+use Rattle.lw_rows.specs.RowStack.{Region, IsRegion, bit_in}
 
 -- the set of the numbers whose bits a row has
 abbrev pub has : List Bool → Set ℕ

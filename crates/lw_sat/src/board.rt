@@ -3,7 +3,7 @@ ghost use Rattle.lw_proof.specs.System.{Set};
 ghost use Rattle.std.specs.List.{list_any};
 ghost use Rattle.lw_sat.specs.Sets.{adding, either, lower, nothing, sets, top, without, AreBelow};
 ghost use Rattle.lw_sat.specs.Moves.{listed, needed};
-ghost use Rattle.lw_sat.specs.Path.{spot_of, root, IsBoard, Becomes};
+ghost use Rattle.lw_sat.specs.SeedPath.{spot_of, root, IsBoard, Becomes};
 
 use crate::bits::{add, add_side, clear, pour, remove, remove_side};
 use crate::frame::Side;

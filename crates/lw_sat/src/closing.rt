@@ -2,7 +2,7 @@
 ghost use Rattle.std.specs.Prelude.{◌≡◌, ℕ, ◌<◌, ◌≤◌, Bool, max, IfNone, IfOk, OnOk};
 ghost use Rattle.lw_proof.specs.Lean.{steps};
 ghost use Rattle.lw_proof.specs.System.{Set};
-ghost use Rattle.lw_sat.specs.Path.{most_steps, room_below, spot_of, IsBoard};
+ghost use Rattle.lw_sat.specs.SeedPath.{most_steps, room_below, spot_of, IsBoard};
 ghost use Rattle.lw_sat.specs.Saturated.{every, fold_steps, room, FoldsAll, IsClosing};
 
 use crate::board::Board;

@@ -7,7 +7,7 @@ ghost use Rattle.lw_proof.specs.Tree.{node, more, none};
 ghost use Rattle.lw_closure.specs.Table.{item_at, item_count};
 ghost use Rattle.lw_sat.specs.Closing.{Rests};
 ghost use Rattle.lw_sat.specs.Moves.{listed, Moves};
-ghost use Rattle.lw_sat.specs.Path.{folded_steps, held_steps, spot_of, Becomes, ClosesAbove, FoldsTo, IsBoard, IsClosedAt, IsWide, Link, Spot, TurnsFirst};
+ghost use Rattle.lw_sat.specs.SeedPath.{folded_steps, held_steps, spot_of, Becomes, ClosesAbove, FoldsTo, IsBoard, IsClosedAt, IsWide, Link, Spot, TurnsFirst};
 ghost use Rattle.lw_sat.specs.Sets.{adding, lower, sets, top, AreBelow};
 
 use crate::board::Board;

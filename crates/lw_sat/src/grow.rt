@@ -1,7 +1,7 @@
 // Rules that put something into the label.
 ghost use Rattle.std.specs.Prelude.{◌≡◌, ◌++◌, [], ◌∷◌, IfOk, OnOk};
 ghost use Rattle.lw_sat.specs.Moves.{listed};
-ghost use Rattle.lw_sat.specs.Path.{spot_of, Becomes, IsBoard};
+ghost use Rattle.lw_sat.specs.SeedPath.{spot_of, Becomes, IsBoard};
 ghost use Rattle.lw_sat.specs.Sets.{adding, lower, top, AreBelow};
 ghost use Rattle.lw_sat.specs.declared.frame.Frame.TheVariants.{Alone, First};
 

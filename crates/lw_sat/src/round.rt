@@ -4,7 +4,7 @@ ghost use Rattle.lw_proof.specs.System.{Set};
 ghost use Rattle.lw_proof.specs.Tree.{node, none};
 ghost use Rattle.lw_closure.specs.Table.{item_at, item_count};
 ghost use Rattle.lw_sat.specs.Moves.{listed, Survives};
-ghost use Rattle.lw_sat.specs.Path.{most_steps, spot_of, Becomes, IsBoard};
+ghost use Rattle.lw_sat.specs.SeedPath.{most_steps, spot_of, Becomes, IsBoard};
 ghost use Rattle.lw_sat.specs.Course.{RunFits};
 ghost use Rattle.lw_sat.specs.Saturated.{every, fold_steps, room, round_steps, IsAt, RoundFalls, RoundFits};
 ghost use Rattle.lw_sat.specs.Sets.{adding, nothing, AreBelow};

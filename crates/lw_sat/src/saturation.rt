@@ -6,7 +6,7 @@ ghost use Rattle.lw_proof.specs.System.{Set};
 ghost use Rattle.lw_closure.specs.Table.{entry_at, item_count};
 ghost use Rattle.lw_sat.specs.Closing.{Closes};
 ghost use Rattle.lw_sat.specs.Moves.{Survives};
-ghost use Rattle.lw_sat.specs.Path.{most_steps, IsBoard};
+ghost use Rattle.lw_sat.specs.SeedPath.{most_steps, IsBoard};
 ghost use Rattle.lw_sat.specs.Saturated.{every, fold_steps, room, FoldsAll, IsAt};
 ghost use Rattle.lw_sat.specs.Course.{is_ready, label, state_from, steps_held, waits, work_left, FoundFits, FoundSteps, IsFailed, IsUnderWay, RunFits};
 ghost use Rattle.lw_sat.specs.Sets.{adding, among};

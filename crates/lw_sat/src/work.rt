@@ -7,9 +7,9 @@ ghost use Rattle.lw_closure.specs.Mapping.{OfBoth};
 ghost use Rattle.lw_closure.specs.Table.{entry_at, flip_item, item_count, IsTable};
 ghost use Rattle.lw_closure.specs.Unclosed.{IsServed, IsUnclosedLabel};
 ghost use Rattle.lw_sat.specs.Moves.{listed};
-ghost use Rattle.lw_sat.specs.Path.{IsBoard, IsWide};
+ghost use Rattle.lw_sat.specs.SeedPath.{IsBoard, IsWide};
 ghost use Rattle.lw_sat.specs.Sets.{adding, top, AreBelow, IsOfItems};
-ghost use Rattle.lw_sat.specs.Working.{is_nothing, IsQuiet, IsWork};
+ghost use Rattle.lw_sat.specs.Private.LabelWork.{is_nothing, IsQuiet, IsWork};
 
 use crate::board::Board;
 use crate::frame::Side;

@@ -1,8 +1,7 @@
 -- What a search leaves behind where it finds no proof.
 use Rattle.std.specs.Prelude.{◌≡◌, ℕ, ◌<◌, ◌≤◌, Some, length}
 use Rattle.lw_model.specs.Bounds.{tree_size}
-use Rattle.lw_proof.specs.System.{Set}
-use Rattle.lw_proof.proofs.Larger.{IsWithin}
+use Rattle.lw_proof.specs.System.{Set, IsWithin}
 use Rattle.lw_closure.specs.Table.{Table}
 use Rattle.lw_closure.specs.Items.{items}
 use Rattle.lw_counter.specs.Fragment.{Fragment, world_at, items_of, HasItemsOf}

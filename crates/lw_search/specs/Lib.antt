@@ -2,9 +2,4 @@ pub mod Step
 pub mod Ranked
 pub mod Explored
 pub mod Outcome
-pub mod Lacking
-pub mod Used
-pub mod Sound
-pub mod Levels
-pub mod Turns
-pub mod Tableau
+pub mod Private

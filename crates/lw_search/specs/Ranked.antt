@@ -6,14 +6,13 @@ use Rattle.lw_formula.specs.declared.sign.Sign.TheVariants.{F}
 use Rattle.lw_formula.specs.Formula.{Formula, depth, modal_count}
 use Rattle.lw_pool.specs.Region.{tree_at}
 use Rattle.lw_model.specs.Bounds.{step_bound}
-use Rattle.lw_proof.specs.System.{Set}
+use Rattle.lw_proof.specs.System.{Set, IsWithin}
 use Rattle.lw_proof.specs.Derivation.{has_cut, has_refl, kept}
-use Rattle.lw_proof.proofs.Larger.{IsWithin}
 use Rattle.lw_closure.specs.Table.{Table, entry_at, item_count, signed_of}
 use Rattle.lw_closure.specs.Items.{items}
 use Rattle.lw_closure.specs.Keeps.{Keeps}
 use Rattle.lw_closure.specs.Unclosed.{IsUnclosedLabel}
-use Rattle.lw_counter.specs.Paths.{has_links}
+use Rattle.lw_counter.specs.FragmentPaths.{has_links}
 use Rattle.lw_sat.specs.Moves.{Survives}
 use Rattle.lw_sat.specs.Sets.{among, IsOfItems}
 use Rattle.lw_search.specs.Step.{is_asker, seed}

@@ -3,7 +3,7 @@ ghost use Rattle.lw_formula.specs.Formula.{depth, modal_count};
 ghost use Rattle.lw_pool.specs.Region.{tree_at};
 ghost use Rattle.lw_model.specs.Bounds.{step_bound};
 ghost use Rattle.lw_closure.specs.Keeps.{Keeps};
-ghost use Rattle.lw_counter.specs.Answered.{IsAnswerTo};
+ghost use Rattle.lw_counter.specs.Answers.{IsAnswerTo};
 ghost use Rattle.lw_search.specs.Outcome.{OutcomeFits};
 
 use crate::outcome::Outcome;

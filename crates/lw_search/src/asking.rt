@@ -1,15 +1,15 @@
 // Which π of a label ask for a step.
 ghost use Rattle.std.specs.Prelude.{◌≡◌, ◌<◌, ◌↔◌, ◌||◌, not, IsTrue, MatchOption, length};
 ghost use Rattle.lw_proof.specs.Derivation.{kept};
-ghost use Rattle.lw_proof.proofs.Larger.{IsWithin};
+ghost use Rattle.lw_proof.specs.System.{IsWithin};
 ghost use Rattle.lw_closure.specs.Table.{item_count};
 ghost use Rattle.lw_closure.specs.Items as of_items;
 ghost use Rattle.lw_counter.specs.Fragment.{items_of};
-ghost use Rattle.lw_sat.specs.Path.{IsBoard, IsWide};
+ghost use Rattle.lw_sat.specs.SeedPath.{IsBoard, IsWide};
 ghost use Rattle.lw_sat.specs.Sets.{among, top, IsOfItems};
 ghost use Rattle.lw_search.specs.Ranked.{IsServedBy};
 ghost use Rattle.lw_search.specs.Step.{kept_of};
-ghost use Rattle.lw_search.specs.Turns.{IsAsked, IsFar, ServesItself};
+ghost use Rattle.lw_search.specs.Private.SearchTurns.{IsAsked, IsFar, ServesItself};
 
 use crate::rule::StepRule;
 use crate::tableau::Tableau;

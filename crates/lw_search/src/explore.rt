@@ -3,7 +3,7 @@ ghost use Rattle.std.specs.Prelude.{◌≡◌, ◌<◌, IfOk, [], ◌∷◌};
 ghost use Rattle.lw_closure.specs.Table.{item_count};
 ghost use Rattle.lw_closure.specs.Keeps.{Keeps};
 ghost use Rattle.lw_sat.specs.Sets.{among};
-ghost use Rattle.lw_search.specs.Levels.{IsBegun};
+ghost use Rattle.lw_search.specs.Private.SearchLevels.{IsBegun};
 ghost use Rattle.lw_search.specs.Outcome.{OutcomeFits};
 ghost use Rattle.lw_search.specs.Ranked.{IsRanked};
 

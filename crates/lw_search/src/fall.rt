@@ -1,9 +1,9 @@
 // From a closed seed down to the last label that has another branch.
 ghost use Rattle.std.specs.Prelude.{◌≤◌, IfOk};
 ghost use Rattle.lw_proof.specs.Lean.{steps};
-ghost use Rattle.lw_sat.specs.Path.{IsBoard, IsWide};
-ghost use Rattle.lw_search.specs.Levels.{Aim, IsFallen, Place};
-ghost use Rattle.lw_search.specs.Turns.{ClosesStep, FallFits, ReopensOrCloses};
+ghost use Rattle.lw_sat.specs.SeedPath.{IsBoard, IsWide};
+ghost use Rattle.lw_search.specs.Private.SearchLevels.{Aim, IsFallen, Place};
+ghost use Rattle.lw_search.specs.Private.SearchTurns.{ClosesStep, FallFits, ReopensOrCloses};
 
 use crate::level::{Level, Search};
 use crate::rule::StepRule;

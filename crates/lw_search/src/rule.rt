@@ -4,7 +4,7 @@ ghost use Rattle.lw_formula.specs.declared.logic.Logic.{Logic};
 ghost use Rattle.lw_proof.specs.Derivation.{added, has_refl};
 ghost use Rattle.lw_closure.specs.Items.{items};
 ghost use Rattle.lw_closure.specs.Table.{Table, item_count, IsTable};
-ghost use Rattle.lw_counter.specs.Paths as paths;
+ghost use Rattle.lw_counter.specs.FragmentPaths as paths;
 ghost use Rattle.lw_search.specs.Ranked.{Ranking};
 ghost use Rattle.lw_search.specs.Step as step;
 

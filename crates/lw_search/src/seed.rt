@@ -1,10 +1,10 @@
 // The seeds of steps.
 ghost use Rattle.std.specs.Prelude.{◌≡◌, ◌<◌, ◌≤◌, ◌&&◌, ◌||◌, nat_eq, IfOk};
 ghost use Rattle.lw_closure.specs.Table.{item_count};
-ghost use Rattle.lw_sat.specs.Path.{root, spot_of, Becomes, IsBoard, IsWide};
+ghost use Rattle.lw_sat.specs.SeedPath.{root, spot_of, Becomes, IsBoard, IsWide};
 ghost use Rattle.lw_sat.specs.Saturated.{room};
 ghost use Rattle.lw_sat.specs.Sets.{either, top, IsOfItems};
-ghost use Rattle.lw_search.specs.Levels.{most_room};
+ghost use Rattle.lw_search.specs.Private.SearchLevels.{most_room};
 ghost use Rattle.lw_search.specs.Step.{kept_of, seed};
 
 use crate::rule::StepRule;

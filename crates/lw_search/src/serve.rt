@@ -1,8 +1,8 @@
 // The π of an unclosed label, served one after another.
 ghost use Rattle.std.specs.Prelude.{◌<◌, IfOk, OnOk};
 ghost use Rattle.lw_closure.specs.Table.{item_count};
-ghost use Rattle.lw_search.specs.Levels.{label, Aim, IsServing};
-ghost use Rattle.lw_search.specs.Turns.{IsAsked, IsFar, LinkFits, RiseFits, ServeFits, StepFits, TakesStep};
+ghost use Rattle.lw_search.specs.Private.SearchLevels.{label, Aim, IsServing};
+ghost use Rattle.lw_search.specs.Private.SearchTurns.{IsAsked, IsFar, LinkFits, RiseFits, ServeFits, StepFits, TakesStep};
 
 use crate::level::{Level, Search, Served};
 use crate::rule::StepRule;

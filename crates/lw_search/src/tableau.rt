@@ -1,6 +1,6 @@
 ghost use Rattle.std.specs.Prelude.{◌≡◌};
 ghost use Rattle.lw_closure.specs.Table.{item_count};
-ghost use Rattle.lw_search.specs.Tableau.{IsTableau};
+ghost use Rattle.lw_search.specs.Private.SearchTableau.{IsTableau};
 
 use crate::rule::StepRule;
 use lw_closure::Closure;
@@ -15,7 +15,7 @@ pub(crate) struct Tableau<'a, R: StepRule> {
 
 impl<'a, R: StepRule> Model for Tableau<'a, R> {
     ghost use Rattle.lw_closure.specs.Table.{Table};
-    ghost use Rattle.lw_search.specs.Tableau.{IsTableau};
+    ghost use Rattle.lw_search.specs.Private.SearchTableau.{IsTableau};
 
     ghost Value = { Table };
 

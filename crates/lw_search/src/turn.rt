@@ -1,7 +1,7 @@
 // One turn of the search.
 ghost use Rattle.std.specs.Prelude.{IfOk};
-ghost use Rattle.lw_search.specs.Levels.{Aim, IsUnderWork};
-ghost use Rattle.lw_search.specs.Turns.{TurnFits, WorkFits};
+ghost use Rattle.lw_search.specs.Private.SearchLevels.{Aim, IsUnderWork};
+ghost use Rattle.lw_search.specs.Private.SearchTurns.{TurnFits, WorkFits};
 
 use crate::level::{Search, Served, Turn};
 use crate::rule::StepRule;

@@ -4,10 +4,10 @@ ghost use Rattle.lw_formula.specs.declared.parts.Parts.TheVariants.{Pi};
 ghost use Rattle.lw_proof.specs.Derivation.{added};
 ghost use Rattle.lw_closure.specs.Table.{entry_at, item_count};
 ghost use Rattle.lw_closure.specs.Items.{items};
-ghost use Rattle.lw_sat.specs.Path.{spot_of, Becomes, IsBoard, IsWide};
+ghost use Rattle.lw_sat.specs.SeedPath.{spot_of, Becomes, IsBoard, IsWide};
 ghost use Rattle.lw_sat.specs.Sets.{top, without, IsOfItems};
 ghost use Rattle.lw_search.specs.Step.{kept_of};
-ghost use Rattle.lw_search.specs.Used.{meets, sent, used_step};
+ghost use Rattle.lw_search.specs.Private.StepUse.{meets, sent, used_step};
 
 use crate::rule::StepRule;
 use crate::tableau::Tableau;

@@ -3,9 +3,9 @@ ghost use Rattle.std.specs.Prelude.{◌≡◌, ◌<◌, IfOk, OnOk};
 ghost use Rattle.std.specs.List.{All};
 ghost use Rattle.lw_closure.specs.Table.{item_count};
 ghost use Rattle.lw_closure.specs.Unclosed.{IsUnclosedLabel};
-ghost use Rattle.lw_sat.specs.Path.{IsBoard, IsWide};
+ghost use Rattle.lw_sat.specs.SeedPath.{IsBoard, IsWide};
 ghost use Rattle.lw_sat.specs.Sets.{among, top, IsOfItems};
-ghost use Rattle.lw_search.specs.Levels.{label, serving_room, work_room, Aim, IsServing, IsUnderWork};
+ghost use Rattle.lw_search.specs.Private.SearchLevels.{label, serving_room, work_room, Aim, IsServing, IsUnderWork};
 
 use crate::level::Search;
 use crate::rule::StepRule;

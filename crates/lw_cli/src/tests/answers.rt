@@ -1,7 +1,7 @@
 //! What is decided in each logic, and that the certificate of each answer passes the program's own check.
 
 ghost use Rattle.std.specs.Prelude.{◌≡◌};
-ghost use Rattle.lw_cli.specs.Certified.{certificate_of};
+ghost use Rattle.lw_cli.specs.Private.AnswerCertificate.{certificate_of};
 
 use super::{FILE, run};
 use lw_cert::{Body, Certificate, certificate_text};

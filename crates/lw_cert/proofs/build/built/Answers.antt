@@ -1,5 +1,5 @@
 use Rattle.std.proofs.Common.{reverse, ◌∙◌}
-use Rattle.lw_cert.proofs.Growing.{grown-pop}
+use Rattle.lw_cert.proofs.PreOrder.{grown-pop}
 use Rattle.lw_cert.proofs.build.built.Goals as goal
 
 pub loop-step-preserved : goal.loop-step-preserved

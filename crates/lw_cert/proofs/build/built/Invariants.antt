@@ -1,5 +1,5 @@
 use Rattle.std.proofs.Common.{◌≡◌, [], reverse, map, vec_len}
-use Rattle.lw_cert.specs.Views.{grown, ruled}
+use Rattle.lw_cert.specs.Private.StageViews.{grown, ruled}
 use Rattle.lw_cert.proofs.build.built.Given as goal
 
 abbrev pub invariant-loop-step : goal.invariant-loop-step

@@ -1,5 +1,5 @@
 use Rattle.std.proofs.Common.{reverse}
-use Rattle.lw_cert.proofs.Growing.{taken-step}
+use Rattle.lw_cert.proofs.PreOrder.{taken-step}
 use Rattle.lw_cert.proofs.build.taken.Goals as goal
 
 pub loop-preserved : goal.loop-preserved

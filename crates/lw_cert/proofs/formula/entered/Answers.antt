@@ -1,6 +1,6 @@
 use Rattle.std.proofs.Common.{sym, ◌∙◌}
 use Rattle.lw_formula.specs.Tree.{tree_of}
-use Rattle.lw_cert.proofs.Wording.{same-bytes, is-read}
+use Rattle.lw_cert.proofs.WordReaders.{same-bytes, is-read}
 use Rattle.lw_cert.proofs.formula.entered.Goals as goal
 
 pub returns-then-eq-clause-found : goal.returns-then-eq-clause-found

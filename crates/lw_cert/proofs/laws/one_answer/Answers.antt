@@ -1,4 +1,4 @@
-use Rattle.lw_cert.proofs.Telling.{one-answer}
+use Rattle.lw_cert.proofs.OneCertificate.{one-answer}
 use Rattle.lw_cert.proofs.laws.one_answer.Goals as goal
 
 pub returns : goal.returns

@@ -1,4 +1,4 @@
-use Rattle.lw_cert.proofs.Telling.{one-certificate}
+use Rattle.lw_cert.proofs.OneCertificate.{one-certificate}
 use Rattle.lw_cert.proofs.laws.one_certificate.Goals as goal
 
 pub returns : goal.returns

@@ -1,4 +1,4 @@
-use Rattle.lw_cert.proofs.Ordered.{one-text}
+use Rattle.lw_cert.proofs.OneSheet.{one-text}
 use Rattle.lw_cert.proofs.laws.one_text.Goals as goal
 
 pub returns : goal.returns

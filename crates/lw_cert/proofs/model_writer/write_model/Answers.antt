@@ -1,5 +1,5 @@
-use Rattle.lw_cert.proofs.Tabling.{model-written}
-use Rattle.lw_cert.proofs.Writing.{writes-counts, writes-ending}
+use Rattle.lw_cert.proofs.WorldRows.{model-written}
+use Rattle.lw_cert.proofs.LineBytes.{writes-counts, writes-ending}
 use Rattle.lw_cert.proofs.model_writer.write_model.Goals as goal
 
 pub returns : goal.returns

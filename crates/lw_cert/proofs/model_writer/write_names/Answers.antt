@@ -1,7 +1,7 @@
 use Rattle.std.proofs.Common.{◌++◌, [], ap, ◌∙◌}
 use Rattle.std.proofs.lemmas.List.{get_or_default, take_all}
 use Rattle.lw_cert.specs.Lines.{words}
-use Rattle.lw_cert.proofs.Writing.{words-more}
+use Rattle.lw_cert.proofs.LineBytes.{words-more}
 use Rattle.lw_cert.proofs.model_writer.write_names.Goals as goal
 
 pub loop-name-preserved : goal.loop-name-preserved

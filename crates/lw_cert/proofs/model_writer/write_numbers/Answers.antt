@@ -1,7 +1,7 @@
 use Rattle.std.proofs.Common.{◌++◌, ap, ◌∙◌}
 use Rattle.std.proofs.lemmas.List.{take_all}
 use Rattle.lw_cert.specs.Lines.{numbers}
-use Rattle.lw_cert.proofs.Writing.{numbers-more}
+use Rattle.lw_cert.proofs.LineBytes.{numbers-more}
 use Rattle.lw_cert.proofs.model_writer.write_numbers.Goals as goal
 
 pub loop-number-preserved : goal.loop-number-preserved

@@ -1,5 +1,5 @@
-use Rattle.lw_cert.proofs.Tabling.{row-written}
-use Rattle.lw_cert.proofs.Writing.{writes-row}
+use Rattle.lw_cert.proofs.WorldRows.{row-written}
+use Rattle.lw_cert.proofs.LineBytes.{writes-row}
 use Rattle.lw_cert.proofs.model_writer.write_row.Goals as goal
 
 pub returns : goal.returns

@@ -1,6 +1,6 @@
 use Rattle.std.proofs.Common.{◌≡◌, subst, arith}
-use Rattle.lw_cert.specs.Writing.{WritesRows}
-use Rattle.lw_cert.proofs.Tabling.{rows-none, rows-more}
+use Rattle.lw_cert.specs.Private.LineWriting.{WritesRows}
+use Rattle.lw_cert.proofs.WorldRows.{rows-none, rows-more}
 use Rattle.lw_cert.proofs.model_writer.write_rows.Goals as goal
 
 pub loop-world-init : goal.loop-world-init

@@ -1,5 +1,5 @@
 use Rattle.std.proofs.Common.{◌≡◌}
-use Rattle.lw_cert.specs.Writing.{WritesRows}
+use Rattle.lw_cert.specs.Private.LineWriting.{WritesRows}
 use Rattle.lw_cert.proofs.model_writer.write_rows.Given as goal
 
 abbrev pub invariant-loop-world : goal.invariant-loop-world

@@ -1,5 +1,5 @@
 use Rattle.std.proofs.Common.{sym, subst}
-use Rattle.lw_cert.specs.Views.{IsNext}
+use Rattle.lw_cert.specs.Private.StageViews.{IsNext}
 use Rattle.lw_cert.proofs.next.advanced.Goals as goal
 
 pub returns-in-Start-clause-next : goal.returns-in-Start-clause-next

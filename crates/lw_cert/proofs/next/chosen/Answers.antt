@@ -1,4 +1,4 @@
-use Rattle.lw_cert.proofs.Arriving.{leads-headed}
+use Rattle.lw_cert.proofs.StageLines.{leads-headed}
 use Rattle.lw_cert.proofs.next.chosen.Goals as goal
 
 pub returns-in-Some : goal.returns-in-Some

@@ -1,6 +1,6 @@
 use Rattle.std.proofs.Common.{◌∙◌, ◌∷◌, [], sym, ap, refl, reverse, vec_len}
 use Rattle.std.proofs.lemmas.List.{reverse-append}
-use Rattle.lw_cert.proofs.Concluding.{none-popped}
+use Rattle.lw_cert.proofs.LastLines.{none-popped}
 use Rattle.lw_cert.proofs.next.concluded.Goals as goal
 
 pub returns-in-Some : goal.returns-in-Some

@@ -1,7 +1,7 @@
 use Rattle.std.proofs.Common.{arith}
-use Rattle.lw_cert.proofs.Wording.{match-none, match-some}
-use Rattle.lw_cert.proofs.Arriving.{leads-worlds, blocks-worlds}
-use Rattle.lw_cert.proofs.Concluding.{too-few}
+use Rattle.lw_cert.proofs.WordReaders.{match-none, match-some}
+use Rattle.lw_cert.proofs.StageLines.{leads-worlds, blocks-worlds}
+use Rattle.lw_cert.proofs.LastLines.{too-few}
 use Rattle.lw_cert.proofs.next.counted.Goals as goal
 use Rattle.lw_cert.proofs.next.counted.Goals.{in_default-2-via-in-Some-2+else-worlds-ge1, in_default-2-via-in_default-2}
 

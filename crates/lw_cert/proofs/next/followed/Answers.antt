@@ -1,6 +1,6 @@
 use Rattle.std.proofs.Common.{◌∙◌, ◌++◌, ◌∷◌, [], ap}
-use Rattle.lw_cert.proofs.Wording.{same-bytes}
-use Rattle.lw_cert.proofs.Arriving.{leads-proof, leads-model}
+use Rattle.lw_cert.proofs.WordReaders.{same-bytes}
+use Rattle.lw_cert.proofs.StageLines.{leads-proof, leads-model}
 use Rattle.lw_cert.proofs.next.followed.Goals as goal
 
 pub returns-in_ok-push : goal.returns-in_ok-push

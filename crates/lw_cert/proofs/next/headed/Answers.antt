@@ -1,6 +1,6 @@
 use Rattle.std.proofs.Common.{◌∙◌}
-use Rattle.lw_cert.proofs.Wording.{same-bytes}
-use Rattle.lw_cert.proofs.Arriving.{leads-start}
+use Rattle.lw_cert.proofs.WordReaders.{same-bytes}
+use Rattle.lw_cert.proofs.StageLines.{leads-start}
 use Rattle.lw_cert.proofs.next.headed.Goals as goal
 
 pub returns-then-eq : goal.returns-then-eq

@@ -1,6 +1,6 @@
 use Rattle.std.proofs.Common.{◌∙◌}
-use Rattle.lw_cert.proofs.Wording.{same-bytes}
-use Rattle.lw_cert.proofs.Concluding.{leads-listed}
+use Rattle.lw_cert.proofs.WordReaders.{same-bytes}
+use Rattle.lw_cert.proofs.LastLines.{leads-listed}
 use Rattle.lw_cert.proofs.next.listed.Goals as goal
 
 pub returns-then-eq : goal.returns-then-eq

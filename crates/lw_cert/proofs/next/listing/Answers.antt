@@ -1,6 +1,6 @@
 use Rattle.std.proofs.Common.{◌<◌, ◌≤◌, arith}
-use Rattle.lw_cert.proofs.Wording.{match-true, match-false}
-use Rattle.lw_cert.proofs.Concluding.{leads-row, blocks-row}
+use Rattle.lw_cert.proofs.WordReaders.{match-true, match-false}
+use Rattle.lw_cert.proofs.LastLines.{leads-row, blocks-row}
 use Rattle.lw_cert.proofs.next.listing.Goals as goal
 
 pub returns-then-next-worlds : goal.returns-then-next-worlds

@@ -1,5 +1,5 @@
-use Rattle.lw_cert.proofs.Wording.{match-some}
-use Rattle.lw_cert.proofs.Arriving.{leads-chosen}
+use Rattle.lw_cert.proofs.WordReaders.{match-some}
+use Rattle.lw_cert.proofs.StageLines.{leads-chosen}
 use Rattle.lw_cert.proofs.next.named.Goals as goal
 
 pub returns-in-Some-2-clause-next : goal.returns-in-Some-2-clause-next

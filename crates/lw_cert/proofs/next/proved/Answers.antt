@@ -3,9 +3,9 @@ use Rattle.std.specs.declared.alloc.Global.{Global}
 use Rattle.std.specs.declared.vec.Vec.{Vec}
 use Rattle.lw_formula.specs.Formula.{Formula}
 use Rattle.lw_cert.specs.declared.stage.Stage.TheVariants as stage
-use Rattle.lw_cert.specs.Views.{IsNext, Concludes, grown, ruled}
-use Rattle.lw_cert.proofs.Wording.{same-bytes, ok-more}
-use Rattle.lw_cert.proofs.Concluding.{next-proved}
+use Rattle.lw_cert.specs.Private.StageViews.{IsNext, Concludes, grown, ruled}
+use Rattle.lw_cert.proofs.WordReaders.{same-bytes, ok-more}
+use Rattle.lw_cert.proofs.LastLines.{next-proved}
 use Rattle.lw_cert.proofs.next.proved.Goals as goal
 
 pub returns-then-eq : goal.returns-then-eq

@@ -1,7 +1,7 @@
 use Rattle.std.proofs.Common.{◌<◌, ◌^◌, arith}
-use Rattle.lw_cert.proofs.Wording.{match-none, match-some}
-use Rattle.lw_cert.proofs.Arriving.{blocks-refuted}
-use Rattle.lw_cert.proofs.Concluding.{leads-refuted, too-many}
+use Rattle.lw_cert.proofs.WordReaders.{match-none, match-some}
+use Rattle.lw_cert.proofs.StageLines.{blocks-refuted}
+use Rattle.lw_cert.proofs.LastLines.{leads-refuted, too-many}
 use Rattle.lw_cert.proofs.next.refuted.Goals as goal
 use Rattle.lw_cert.proofs.next.refuted.Goals.{in_default-2-via-in-Some-2+else-refuted-worlds, in_default-2-via-in_default-2}
 

@@ -1,8 +1,8 @@
 use Rattle.std.proofs.Common.{◌≤◌, ◌∙◌, ◌∷◌, [], ◌++◌, ap, reverse, replicate, add-one, arith}
 use Rattle.std.proofs.lemmas.List.{reverse-append}
 use Rattle.lw_cert.specs.Lines.{rule_word, depth_limit}
-use Rattle.lw_cert.proofs.Wording.{match-some}
-use Rattle.lw_cert.proofs.Arriving.{leads-step}
+use Rattle.lw_cert.proofs.WordReaders.{match-some}
+use Rattle.lw_cert.proofs.StageLines.{leads-step}
 use Rattle.lw_cert.proofs.next.stepped.Goals as goal
 
 pub returns-clause-next : goal.returns-clause-next

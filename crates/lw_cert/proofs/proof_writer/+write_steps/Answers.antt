@@ -4,8 +4,8 @@ use Rattle.lw_proof.specs.Pooled.{proof_at}
 use Rattle.lw_proof.specs.Tree.{principal_of}
 use Rattle.lw_cert.specs.Lines.{step_is}
 use Rattle.lw_cert.specs.Sheet.{steps}
-use Rattle.lw_cert.specs.Writing.{Writes}
-use Rattle.lw_cert.proofs.Subproofs.{steps-first, steps-next}
+use Rattle.lw_cert.specs.Private.LineWriting.{Writes}
+use Rattle.lw_cert.proofs.StepLines.{steps-first, steps-next}
 use Rattle.lw_cert.proofs.proof_writer.+write_steps.Goals as goal
 
 pub loop-i-init : goal.loop-i-init

@@ -2,7 +2,7 @@ use Rattle.std.proofs.Common.{ℕ}
 use Rattle.lw_proof.specs.Pooled.{proof_at}
 use Rattle.lw_proof.specs.Tree.{lines}
 use Rattle.lw_cert.specs.Sheet.{steps}
-use Rattle.lw_cert.specs.Writing.{Leaves, left_steps}
+use Rattle.lw_cert.specs.Private.LineWriting.{Leaves, left_steps}
 use Rattle.lw_cert.proofs.proof_writer.+write_steps.Given as goal
 
 abbrev pub invariant-loop-i : goal.invariant-loop-i

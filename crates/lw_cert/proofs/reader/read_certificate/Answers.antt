@@ -3,11 +3,11 @@ use Rattle.std.proofs.lemmas.Result.{err_from_is_err_and}
 use Rattle.lw_formula.specs.Formula.{Formula}
 use Rattle.lw_cert.specs.declared.stage.Stage.TheVariants as stage
 use Rattle.lw_cert.specs.Lines.{Whole, pieces}
-use Rattle.lw_cert.specs.Faults.{IsFaultOf}
+use Rattle.lw_cert.specs.CertificateFaults.{IsFaultOf}
 use Rattle.lw_cert.specs.Certificates.{IsTextOf}
-use Rattle.lw_cert.specs.Views.{Reached, Refuses, last_piece}
-use Rattle.lw_cert.proofs.Wording.{ok-more, err-more}
-use Rattle.lw_cert.proofs.Arrived.{reached-more, refused, finished, grows-trans}
+use Rattle.lw_cert.specs.Private.StageViews.{Reached, Refuses, last_piece}
+use Rattle.lw_cert.proofs.WordReaders.{ok-more, err-more}
+use Rattle.lw_cert.proofs.LinesSoFar.{reached-more, refused, finished, grows-trans}
 use Rattle.lw_cert.proofs.reader.read_certificate.Goals as goal
 
 pub returns-in_err-stage-clause-fault : goal.returns-in_err-stage-clause-fault

@@ -1,6 +1,6 @@
 use Rattle.std.proofs.Common.{◌+◌, ◌≤◌, length}
 use Rattle.lw_cert.specs.Lines.{pieces}
-use Rattle.lw_cert.specs.Views.{Reached}
+use Rattle.lw_cert.specs.Private.StageViews.{Reached}
 use Rattle.lw_pool.specs.Region.{Grows}
 use Rattle.lw_cert.proofs.reader.read_certificate.Given as goal
 

@@ -4,8 +4,8 @@ use Rattle.std.specs.Cmp.Lexicographic.{slice_cmp}
 use Rattle.std.specs.declared.cmp.Ordering.TheVariants.{Less}
 use Rattle.lw_formula.specs.Name.{is_name}
 use Rattle.lw_model.specs.Edits.{AddsFact}
-use Rattle.lw_cert.proofs.Wording.{is-err-of, not-false}
-use Rattle.lw_cert.proofs.Reading.{named-none, named-more, names-refused, names-end}
+use Rattle.lw_cert.proofs.WordReaders.{is-err-of, not-false}
+use Rattle.lw_cert.proofs.RowReading.{named-none, named-more, names-refused, names-end}
 use Rattle.lw_cert.proofs.row.read_names.Goals as goal
 
 pub loop-word-init : goal.loop-word-init

@@ -1,5 +1,5 @@
 use Rattle.std.proofs.Common.{length}
-use Rattle.lw_cert.specs.Rows.{HasNamed}
+use Rattle.lw_cert.specs.Private.RowReading.{HasNamed}
 use Rattle.lw_cert.proofs.row.read_names.Given as goal
 
 abbrev pub invariant-loop-word : goal.invariant-loop-word

@@ -1,6 +1,6 @@
 use Rattle.std.proofs.Common.{◌∙◌, sym}
-use Rattle.lw_cert.proofs.Wording.{match-none, match-some}
-use Rattle.lw_cert.proofs.Reading.{prefix-is, row-unbegun, row-unseen, row-end}
+use Rattle.lw_cert.proofs.WordReaders.{match-none, match-some}
+use Rattle.lw_cert.proofs.RowReading.{prefix-is, row-unbegun, row-unseen, row-end}
 use Rattle.lw_cert.proofs.row.read_row.Goals as goal
 
 pub returns-in_default : goal.returns-in_default

@@ -1,6 +1,6 @@
 use Rattle.std.proofs.Common.{◌<◌, ◌≤◌, ◌^◌, sym, ◌∙◌, arith}
-use Rattle.lw_cert.proofs.Wording.{same-bytes, not-same, match-none, match-some}
-use Rattle.lw_cert.proofs.Reading.{passed-none, passed-more, seen-true, seen-over, seen-no-number, seen-out}
+use Rattle.lw_cert.proofs.WordReaders.{same-bytes, not-same, match-none, match-some}
+use Rattle.lw_cert.proofs.RowReading.{passed-none, passed-more, seen-true, seen-over, seen-no-number, seen-out}
 use Rattle.lw_cert.proofs.row.read_seen.Goals as goal
 use Rattle.lw_cert.proofs.row.read_seen.Goals.{then-seen-least-via-then-seen-least, then-seen-least-via-else-seen-least+then-seen-worlds}
 

@@ -1,5 +1,5 @@
 use Rattle.std.proofs.Common.{length}
-use Rattle.lw_cert.specs.Rows.{HasPassed}
+use Rattle.lw_cert.specs.Private.RowReading.{HasPassed}
 use Rattle.lw_cert.proofs.row.read_seen.Given as goal
 
 abbrev pub invariant-loop-word : goal.invariant-loop-word

@@ -1,4 +1,4 @@
-use Rattle.lw_cert.proofs.Splitting.{first-line-some, first-line-none}
+use Rattle.lw_cert.proofs.LinesAndWords.{first-line-some, first-line-none}
 use Rattle.lw_cert.proofs.split.first_line.Goals as goal
 
 pub returns-then-end-text : goal.returns-then-end-text

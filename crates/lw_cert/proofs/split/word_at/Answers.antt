@@ -1,4 +1,4 @@
-use Rattle.lw_cert.proofs.Splitting.{is-word}
+use Rattle.lw_cert.proofs.LinesAndWords.{is-word}
 use Rattle.lw_cert.proofs.split.word_at.Goals as goal
 
 pub returns : goal.returns

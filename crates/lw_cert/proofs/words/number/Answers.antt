@@ -3,7 +3,7 @@ use Rattle.std.proofs.lemmas.Fmt.{IsAscii-decimal, parse-decimal}
 use Rattle.std.proofs.lemmas.Str.{IsUtf8-from_ascii}
 use Rattle.std.specs.Fmt.{decimal}
 use Rattle.std.specs.Str.{IsUtf8}
-use Rattle.lw_cert.proofs.Wording.{ok-value, no-error, not-same}
+use Rattle.lw_cert.proofs.WordReaders.{ok-value, no-error, not-same}
 use Rattle.lw_cert.proofs.words.number.Goals as goal
 
 pub returns-in_default : goal.returns-in_default

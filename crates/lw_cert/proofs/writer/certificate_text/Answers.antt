@@ -1,8 +1,8 @@
 use Rattle.std.proofs.Common.{◌∷◌, ◌∙◌, subst}
 use Rattle.lw_pool.specs.Region.{tree_at}
 use Rattle.lw_cert.specs.Lines.{heading, logic_is, formula_is}
-use Rattle.lw_cert.specs.Writing.{Writes}
-use Rattle.lw_cert.proofs.Composing.{is-written}
+use Rattle.lw_cert.specs.Private.LineWriting.{Writes}
+use Rattle.lw_cert.proofs.HeadAndBody.{is-written}
 use Rattle.lw_cert.proofs.writer.certificate_text.Goals as goal
 
 pub returns-clause-text : goal.returns-clause-text

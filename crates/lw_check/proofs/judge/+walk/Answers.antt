@@ -11,11 +11,11 @@ use Rattle.lw_proof.specs.Tree.{principal_of, subs_of}
 use Rattle.lw_proof.specs.Derivation.{plus, kept, added}
 use Rattle.lw_proof.specs.Break.{arity}
 use Rattle.lw_check.specs.declared.walked.Walked.TheVariants.{Through}
-use Rattle.lw_check.specs.Walk.{set_of, side_at, Tells, TellsAll}
-use Rattle.lw_check.proofs.Grown.{Grows-refl, Grows-trans, IsProofLive_grows, AreLive_grows, AreBothBelow_grows}
-use Rattle.lw_check.proofs.Sets.{set_of_side}
-use Rattle.lw_proof.proofs.Subproofs.{second_member}
-use Rattle.lw_check.proofs.Outcomes.{TellsReason, tells_same, tells_refused, tells_kept, tells_none, tells_one, tells_both, tells_broken}
+use Rattle.lw_check.specs.Private.ProofWalk.{set_of, side_at, Tells, TellsAll}
+use Rattle.lw_check.proofs.GrownPools.{Grows-refl, Grows-trans, IsProofLive_grows, AreLive_grows, AreBothBelow_grows}
+use Rattle.lw_check.proofs.IdSets.{set_of_side}
+use Rattle.lw_proof.proofs.FirstSubproofs.{second_member}
+use Rattle.lw_check.proofs.WalkOutcomes.{TellsReason, tells_same, tells_refused, tells_kept, tells_none, tells_one, tells_both, tells_broken}
 use Rattle.lw_check.proofs.judge.+walk.Goals as goal
 
 pub extended-returns-clause-told : goal.extended-returns-clause-told

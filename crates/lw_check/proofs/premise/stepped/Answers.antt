@@ -5,9 +5,9 @@ use Rattle.lw_pool.specs.declared.id.SignedId.{SignedId}
 use Rattle.lw_pool.specs.Region.{IsLive, signed_at}
 use Rattle.lw_proof.specs.System.{trees}
 use Rattle.lw_proof.specs.Derivation.{side, plus, kept, added}
-use Rattle.lw_check.specs.Walk.{set_of, AreLive}
-use Rattle.lw_check.proofs.Grown.{IsLive_grows, AreLive_grows}
-use Rattle.lw_check.proofs.Kept.{kept_first, kept_more, side_live, next_live}
+use Rattle.lw_check.specs.Private.ProofWalk.{set_of, AreLive}
+use Rattle.lw_check.proofs.GrownPools.{IsLive_grows, AreLive_grows}
+use Rattle.lw_check.proofs.KeptMembers.{kept_first, kept_more, side_live, next_live}
 use Rattle.lw_check.proofs.premise.stepped.Goals as goal
 
 pub loop-other-init : goal.loop-other-init

@@ -3,7 +3,7 @@ use Rattle.lw_formula.specs.Formula.{Formula}
 use Rattle.lw_pool.specs.Region.{Grows, signed_at}
 use Rattle.lw_proof.specs.System.{trees}
 use Rattle.lw_proof.specs.Derivation.{plus, kept, added}
-use Rattle.lw_check.specs.Walk.{set_of, AreLive}
+use Rattle.lw_check.specs.Private.ProofWalk.{set_of, AreLive}
 use Rattle.lw_check.proofs.premise.stepped.Given as goal
 
 abbrev pub invariant-loop-other : goal.invariant-loop-other

@@ -1,5 +1,5 @@
 use Rattle.std.proofs.Common.{◌∙◌}
-use Rattle.lw_check.proofs.Sets.{id_eq, id_eq-Decides, set_of_test}
+use Rattle.lw_check.proofs.IdSets.{id_eq, id_eq-Decides, set_of_test}
 use Rattle.lw_check.proofs.step.has.Goals as goal
 
 pub returns : goal.returns

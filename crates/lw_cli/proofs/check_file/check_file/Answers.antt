@@ -1,5 +1,5 @@
 use Rattle.std.proofs.Common.{refl, subst, ◌∙◌}
-use Rattle.lw_io.specs.Written.{AddsPart}
+use Rattle.lw_io.specs.Output.{AddsPart}
 use Rattle.lw_cli.specs.FindingLines.{finding_line, finding_status}
 use Rattle.lw_cli.proofs.check_file.check_file.Goals as goal
 

@@ -1,7 +1,7 @@
 use Rattle.std.proofs.Common.{◌+◌, sym, subst}
 use Rattle.lw_io.specs.Files.{IsHeldPart}
 use Rattle.lw_cli.specs.Outcome.{file_limit}
-use Rattle.lw_cli.proofs.Found.{finding_of_fetched}
+use Rattle.lw_cli.proofs.FileFindings.{finding_of_fetched}
 use Rattle.lw_cli.proofs.check_file.finding_file.Goals as goal
 
 pub returns-in-Ok-clause-finding : goal.returns-in-Ok-clause-finding

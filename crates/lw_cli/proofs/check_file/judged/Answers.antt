@@ -1,7 +1,7 @@
 use Rattle.std.proofs.Common.{IfOk, subst}
 use Rattle.lw_cert.specs.Certificates.{IsContentOf}
 use Rattle.lw_cli.specs.Checked.{IsJudged}
-use Rattle.lw_cli.proofs.Found.{judged_proof, judged_model, live_proof, world_within}
+use Rattle.lw_cli.proofs.FileFindings.{judged_proof, judged_model, live_proof, world_within}
 use Rattle.lw_cli.proofs.check_file.judged.Goals as goal
 
 pub proof_finding-requires-clause-goal : goal.proof_finding-requires-clause-goal

@@ -1,7 +1,7 @@
 use Rattle.std.proofs.Common.{sym, ◌∙◌}
 use Rattle.lw_pool.specs.Region.{tree_at}
 use Rattle.lw_proof.specs.Pooled.{proof_at}
-use Rattle.lw_cli.proofs.Found.{rejected}
+use Rattle.lw_cli.proofs.FileFindings.{rejected}
 use Rattle.lw_cli.proofs.check_file.proof_finding.Goals as goal
 
 pub returns-in-Rejected : goal.returns-in-Rejected

@@ -1,5 +1,5 @@
 use Rattle.std.proofs.Common.{subst}
-use Rattle.lw_cert.specs.Faults.{IsFaultOf}
+use Rattle.lw_cert.specs.CertificateFaults.{IsFaultOf}
 use Rattle.lw_cli.proofs.check_file.refusal.Goals as goal
 
 pub returns-in-ModelText : goal.returns-in-ModelText

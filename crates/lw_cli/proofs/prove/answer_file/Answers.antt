@@ -1,7 +1,7 @@
 use Rattle.std.proofs.Common.{◌+◌, sym, subst}
 use Rattle.lw_io.specs.Files.{IsHeldPart}
 use Rattle.lw_cli.specs.Outcome.{file_limit}
-use Rattle.lw_cli.proofs.Fetched.{answer_of_fetched}
+use Rattle.lw_cli.proofs.FetchedBytes.{answer_of_fetched}
 use Rattle.lw_cli.proofs.prove.answer_file.Goals as goal
 
 pub returns-in-Ok-clause-answer : goal.returns-in-Ok-clause-answer

@@ -1,7 +1,7 @@
 use Rattle.std.proofs.Common.{◌≤◌, length, arith}
 use Rattle.lw_formula.specs.Tree.{tree_of}
 use Rattle.lw_cli.specs.Outcome.{file_limit, too_long}
-use Rattle.lw_cli.proofs.Answered.{answer_of_decision, answer_of_refusal}
+use Rattle.lw_cli.proofs.FileAnswers.{answer_of_decision, answer_of_refusal}
 use Rattle.lw_cli.proofs.prove.answer_to.Goals as goal
 
 pub returns-then-bytes-gt-FILE_LIMIT : goal.returns-then-bytes-gt-FILE_LIMIT

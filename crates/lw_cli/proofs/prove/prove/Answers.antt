@@ -1,6 +1,6 @@
 use Rattle.std.proofs.Common.{refl, subst, ◌∙◌}
-use Rattle.lw_io.specs.Written.{AddsPart}
-use Rattle.lw_cli.specs.Lines.{line_of, status_of}
+use Rattle.lw_io.specs.Output.{AddsPart}
+use Rattle.lw_cli.specs.AnswerLines.{line_of, status_of}
 use Rattle.lw_cli.proofs.prove.prove.Goals as goal
 
 pub returns-in-Err-clause-sink_part : goal.returns-in-Err-clause-sink_part

@@ -1,7 +1,7 @@
 use Rattle.std.proofs.Common.{sym, subst, arith}
 use Rattle.lw_closure.specs.Building.{IsNumbering}
 use Rattle.lw_closure.specs.Keeps.{Keeps}
-use Rattle.lw_closure.proofs.Keeping.{own_numbering, built}
+use Rattle.lw_closure.proofs.BuiltTable.{own_numbering, built}
 use Rattle.lw_closure.proofs.build.closure.Goals as goal
 
 pub add_guards-requires-clause-numbering : goal.add_guards-requires-clause-numbering

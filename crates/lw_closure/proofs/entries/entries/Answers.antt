@@ -1,5 +1,5 @@
 use Rattle.std.proofs.Common.{arith}
-use Rattle.lw_closure.proofs.Operands.{entries_more}
+use Rattle.lw_closure.proofs.OperandItems.{entries_more}
 use Rattle.lw_closure.proofs.entries.entries.Goals as goal
 
 pub loop-item-preserved : goal.loop-item-preserved

@@ -1,4 +1,4 @@
-use Rattle.lw_closure.proofs.Operands.{parts_there}
+use Rattle.lw_closure.proofs.OperandItems.{parts_there}
 use Rattle.lw_closure.proofs.entries.entry.Goals as goal
 
 pub numbered-parts-requires-clause-there : goal.numbered-parts-requires-clause-there

@@ -1,4 +1,4 @@
-use Rattle.lw_closure.proofs.Guarding.{box_guard}
+use Rattle.lw_closure.proofs.GuardsAdded.{box_guard}
 use Rattle.lw_closure.proofs.guard.add_box_guard.Goals as goal
 
 pub returns-clause-added : goal.returns-clause-added

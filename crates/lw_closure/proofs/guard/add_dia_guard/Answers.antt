@@ -1,4 +1,4 @@
-use Rattle.lw_closure.proofs.Guarding.{dia_guard}
+use Rattle.lw_closure.proofs.GuardsAdded.{dia_guard}
 use Rattle.lw_closure.proofs.guard.add_dia_guard.Goals as goal
 
 pub returns-clause-added : goal.returns-clause-added

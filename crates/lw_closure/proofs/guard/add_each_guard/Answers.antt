@@ -1,7 +1,7 @@
 use Rattle.std.proofs.Common.{◌<◌, length, subst, sym, ap, arith}
 use Rattle.lw_closure.specs.Building.{HasGuards}
-use Rattle.lw_pool.proofs.Growth.{Grows-same, Grows-trans}
-use Rattle.lw_closure.proofs.Guarding.{guards_start, guards_step}
+use Rattle.lw_pool.proofs.RegionGrowth.{Grows-same, Grows-trans}
+use Rattle.lw_closure.proofs.GuardsAdded.{guards_start, guards_step}
 use Rattle.lw_closure.proofs.guard.add_each_guard.Goals as goal
 
 pub loop-at-init : goal.loop-at-init

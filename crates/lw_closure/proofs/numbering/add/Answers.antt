@@ -1,4 +1,4 @@
-use Rattle.lw_closure.proofs.Inserting.{added}
+use Rattle.lw_closure.proofs.IdInsertion.{added}
 use Rattle.lw_closure.proofs.numbering.add.Goals as goal
 
 pub returns : goal.returns

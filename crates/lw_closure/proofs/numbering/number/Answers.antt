@@ -1,6 +1,6 @@
 use Rattle.std.proofs.Common.{sym, ap, ◌∙◌, arith}
 use Rattle.lw_closure.specs.Table.{form_of}
-use Rattle.lw_closure.proofs.Inserting.{found_form}
+use Rattle.lw_closure.proofs.IdInsertion.{found_form}
 use Rattle.lw_closure.proofs.numbering.number.Goals as goal
 
 pub returns-clause-there : goal.returns-clause-there

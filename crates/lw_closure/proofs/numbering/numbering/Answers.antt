@@ -1,5 +1,5 @@
 use Rattle.std.proofs.Common.{arith, ap, length}
-use Rattle.lw_closure.proofs.Inserting.{numbered_more}
+use Rattle.lw_closure.proofs.IdInsertion.{numbered_more}
 use Rattle.lw_closure.proofs.numbering.numbering.Goals as goal
 
 pub loop-form-preserved : goal.loop-form-preserved

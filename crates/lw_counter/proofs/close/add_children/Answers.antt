@@ -1,5 +1,5 @@
 use Rattle.std.proofs.Common.{arith}
-use Rattle.lw_counter.proofs.Edges.{children_end}
+use Rattle.lw_counter.proofs.EdgeSquares.{children_end}
 use Rattle.lw_counter.proofs.close.add_children.Goals as goal
 
 pub returns : goal.returns

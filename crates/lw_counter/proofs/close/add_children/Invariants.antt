@@ -1,7 +1,7 @@
 use Rattle.std.proofs.Common.{◌≡◌, length}
 use Rattle.lw_counter.specs.Fragment.{IsFormed}
-use Rattle.lw_counter.specs.Relation.{SetsBits}
-use Rattle.lw_counter.proofs.Edges.{Children}
+use Rattle.lw_counter.specs.Private.BuiltRelation.{SetsBits}
+use Rattle.lw_counter.proofs.EdgeSquares.{Children}
 use Rattle.lw_counter.proofs.close.add_children.Given as goal
 
 abbrev pub invariant-loop-child : goal.invariant-loop-child

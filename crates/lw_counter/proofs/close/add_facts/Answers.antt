@@ -1,6 +1,6 @@
 use Rattle.std.proofs.Common.{◌≡◌, arith, subst}
-use Rattle.lw_counter.specs.Relation.{AddsFacts}
-use Rattle.lw_counter.proofs.Models.{SaysTrue, worlds_more, FactsBelow}
+use Rattle.lw_counter.specs.Private.BuiltRelation.{AddsFacts}
+use Rattle.lw_counter.proofs.GrownModels.{SaysTrue, worlds_more, FactsBelow}
 use Rattle.lw_counter.proofs.close.add_facts.Goals as goal
 
 pub loop-world-preserved : goal.loop-world-preserved

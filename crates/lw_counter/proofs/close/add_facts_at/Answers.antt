@@ -1,7 +1,7 @@
 use Rattle.std.proofs.Common.{◌+◌, sym, subst}
 use Rattle.lw_model.specs.Edits.{AddsFact}
-use Rattle.lw_counter.specs.Relation.{AddsFacts}
-use Rattle.lw_counter.proofs.Models.{FactsOf, facts_more, facts_skip, facts_end}
+use Rattle.lw_counter.specs.Private.BuiltRelation.{AddsFacts}
+use Rattle.lw_counter.proofs.GrownModels.{FactsOf, facts_more, facts_skip, facts_end}
 use Rattle.lw_counter.proofs.close.add_facts_at.Goals as goal
 use Rattle.lw_counter.proofs.close.add_facts_at.Goals.{in-Some+in_ok-add_fact, in_default}
 

@@ -1,5 +1,5 @@
-use Rattle.lw_counter.specs.Relation.{AddsFacts}
-use Rattle.lw_counter.proofs.Models.{FactsOf}
+use Rattle.lw_counter.specs.Private.BuiltRelation.{AddsFacts}
+use Rattle.lw_counter.proofs.GrownModels.{FactsOf}
 use Rattle.lw_counter.proofs.close.add_facts_at.Given as goal
 
 abbrev pub invariant-loop-item : goal.invariant-loop-item

@@ -1,7 +1,7 @@
 use Rattle.std.proofs.Common.{subst}
 use Rattle.std.specs.List.{Contains}
-use Rattle.lw_counter.specs.Relation.{SetsBits}
-use Rattle.lw_counter.proofs.Edges.{links_more, links_end}
+use Rattle.lw_counter.specs.Private.BuiltRelation.{SetsBits}
+use Rattle.lw_counter.proofs.EdgeSquares.{links_more, links_end}
 use Rattle.lw_counter.proofs.close.add_links.Goals as goal
 
 pub loop-from-preserved : goal.loop-from-preserved

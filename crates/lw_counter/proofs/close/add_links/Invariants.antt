@@ -1,6 +1,6 @@
 use Rattle.lw_counter.specs.Fragment.{IsFormed}
-use Rattle.lw_counter.specs.Relation.{SetsBits}
-use Rattle.lw_counter.proofs.Edges.{Taken}
+use Rattle.lw_counter.specs.Private.BuiltRelation.{SetsBits}
+use Rattle.lw_counter.proofs.EdgeSquares.{Taken}
 use Rattle.lw_counter.proofs.close.add_links.Given as goal
 
 abbrev pub invariant-loop-from : goal.invariant-loop-from

@@ -1,6 +1,6 @@
 use Rattle.std.proofs.Common.{◌≡◌}
-use Rattle.lw_counter.specs.Relation.{AddsPairs}
-use Rattle.lw_counter.proofs.Models.{PairsBelow}
+use Rattle.lw_counter.specs.Private.BuiltRelation.{AddsPairs}
+use Rattle.lw_counter.proofs.GrownModels.{PairsBelow}
 use Rattle.lw_counter.proofs.close.add_pairs.Given as goal
 
 abbrev pub invariant-loop-from : goal.invariant-loop-from

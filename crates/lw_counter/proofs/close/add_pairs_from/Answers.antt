@@ -1,8 +1,8 @@
 use Rattle.std.proofs.Common.{◌+◌, sym, subst, ◌∙◌}
 use Rattle.std.proofs.lemmas.Bool.{false≢true}
 use Rattle.lw_model.specs.Edits.{AddsPair}
-use Rattle.lw_counter.specs.Relation.{AddsPairs}
-use Rattle.lw_counter.proofs.Models.{PairsOfRow, pairs_more, pairs_skip}
+use Rattle.lw_counter.specs.Private.BuiltRelation.{AddsPairs}
+use Rattle.lw_counter.proofs.GrownModels.{PairsOfRow, pairs_more, pairs_skip}
 use Rattle.lw_counter.proofs.close.add_pairs_from.Goals as goal
 use Rattle.lw_counter.proofs.close.add_pairs_from.Goals.{then-has+in_ok-add_pair, else-has}
 

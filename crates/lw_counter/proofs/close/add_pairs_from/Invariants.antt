@@ -1,6 +1,6 @@
 use Rattle.std.proofs.Common.{◌≡◌}
-use Rattle.lw_counter.specs.Relation.{AddsPairs}
-use Rattle.lw_counter.proofs.Models.{PairsOfRow}
+use Rattle.lw_counter.specs.Private.BuiltRelation.{AddsPairs}
+use Rattle.lw_counter.proofs.GrownModels.{PairsOfRow}
 use Rattle.lw_counter.proofs.close.add_pairs_from.Given as goal
 
 abbrev pub invariant-loop-to : goal.invariant-loop-to

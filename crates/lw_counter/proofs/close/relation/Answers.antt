@@ -1,7 +1,7 @@
 use Rattle.std.proofs.Common.{length}
-use Rattle.lw_counter.specs.Paths.{IsEdge}
-use Rattle.lw_counter.proofs.Edges.{completed_square}
-use Rattle.lw_counter.proofs.Paths.{edge_within}
+use Rattle.lw_counter.specs.FragmentPaths.{IsEdge}
+use Rattle.lw_counter.proofs.EdgeSquares.{completed_square}
+use Rattle.lw_counter.proofs.EdgePaths.{edge_within}
 use Rattle.lw_counter.proofs.close.relation.Goals as goal
 
 pub returns : goal.returns

@@ -1,4 +1,4 @@
-use Rattle.lw_counter.proofs.Lifts.{open_lifted}
+use Rattle.lw_counter.proofs.FragmentFormulas.{open_lifted}
 use Rattle.lw_counter.proofs.laws.open_items_are_open_formulas.Goals as goal
 
 pub returns : goal.returns

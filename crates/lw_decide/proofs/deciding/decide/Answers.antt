@@ -1,7 +1,7 @@
 use Rattle.std.proofs.Common.{◌≡◌, ap, subst, ◌∙◌}
 use Rattle.lw_pool.specs.Region.{tree_at}
-use Rattle.lw_counter.specs.Answered.{IsAnswerTo}
-use Rattle.lw_decide.proofs.Validity.{answer_tells}
+use Rattle.lw_counter.specs.Answers.{IsAnswerTo}
+use Rattle.lw_decide.proofs.AnswerValidity.{answer_tells}
 use Rattle.lw_decide.proofs.deciding.decide.Goals as goal
 
 pub returns-clause-validity : goal.returns-clause-validity

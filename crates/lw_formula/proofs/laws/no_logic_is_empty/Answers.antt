@@ -1,4 +1,4 @@
-use Rattle.lw_formula.proofs.OneWorld.{falsum_not_Valid}
+use Rattle.lw_formula.proofs.OneWorldModels.{falsum_not_Valid}
 use Rattle.lw_formula.proofs.laws.no_logic_is_empty.Goals as goal
 
 pub returns : goal.returns

@@ -1,4 +1,4 @@
-use Rattle.lw_formula.proofs.Revaluation.{Valid-replace}
+use Rattle.lw_formula.proofs.RevaluedModels.{Valid-replace}
 use Rattle.lw_formula.proofs.laws.substitution_keeps_validity.Goals as goal
 
 pub returns : goal.returns

@@ -1,4 +1,4 @@
-use Rattle.lw_formula.proofs.Revaluation.{IsTrueAt-agree}
+use Rattle.lw_formula.proofs.RevaluedModels.{IsTrueAt-agree}
 use Rattle.lw_formula.proofs.laws.truth_depends_on_variables.Goals as goal
 
 pub returns : goal.returns

@@ -1,4 +1,4 @@
-use Rattle.lw_gl.proofs.Ranked.{ranked}
+use Rattle.lw_gl.proofs.GlRanking.{ranked}
 use Rattle.lw_gl.proofs.searching.search_gl.Goals as goal
 
 pub search-requires-clause-ranked : goal.search-requires-clause-ranked

@@ -1,7 +1,7 @@
 use Rattle.std.proofs.Common.{◌≡◌, drop}
 use Rattle.std.specs.Ordering.{nat_cmp}
 use Rattle.std.specs.FinMap.{get, find}
-use Rattle.lw_io.specs.Entries.{keeps_of}
+use Rattle.lw_io.specs.Private.MapEntries.{keeps_of}
 use Rattle.lw_io.proofs.memory_sink.keep_at.Given as goal
 
 -- what remains has what the whole list has for the call

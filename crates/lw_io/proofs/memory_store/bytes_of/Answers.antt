@@ -1,6 +1,6 @@
 use Rattle.std.proofs.Common.{arith}
 use Rattle.std.proofs.lemmas.Grind.{common_steps}
-use Rattle.lw_io.proofs.Entries.{bytes_at-files_of}
+use Rattle.lw_io.proofs.MapEntries.{bytes_at-files_of}
 use Rattle.lw_io.proofs.memory_store.bytes_of.Goals as goal
 
 pub returns : goal.returns

@@ -1,4 +1,4 @@
-use Rattle.lw_io.proofs.Entries.{files_of-insert}
+use Rattle.lw_io.proofs.MapEntries.{files_of-insert}
 use Rattle.lw_io.proofs.memory_store.set_bytes.Goals as goal
 
 pub returns-clause-ok : goal.returns-clause-ok

@@ -1,6 +1,6 @@
 use Rattle.std.proofs.Common.{arith, ℕ, List, take}
 use Rattle.std.proofs.lemmas.Grind.{common_steps}
-use Rattle.lw_io.proofs.Written.{takes_more}
+use Rattle.lw_io.proofs.WrittenPieces.{takes_more}
 use Rattle.lw_io.proofs.std_sink.write_whole.Goals as goal
 
 pub loop-rest-preserved : goal.loop-rest-preserved

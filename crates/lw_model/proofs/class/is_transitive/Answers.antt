@@ -1,6 +1,6 @@
 use Rattle.std.proofs.Common.{◌<◌, below_more, refl, arith}
 use Rattle.std.proofs.lemmas.Bool.{false≢true}
-use Rattle.lw_model.proofs.Covers.{IsTransitive-passes}
+use Rattle.lw_model.proofs.CoveredPairs.{IsTransitive-passes}
 use Rattle.lw_model.proofs.class.is_transitive.Goals as goal
 
 pub returns-then-not-row_passes : goal.returns-then-not-row_passes

@@ -1,6 +1,6 @@
 use Rattle.std.proofs.Common.{ℕ, ◌<◌}
 use Rattle.lw_formula.specs.FiniteModel.{Sees}
-use Rattle.lw_model.specs.Cover.{Passes}
+use Rattle.lw_model.specs.Private.PairCover.{Passes}
 use Rattle.lw_model.proofs.class.is_transitive.Given as goal
 
 abbrev pub invariant-loop-world : goal.invariant-loop-world

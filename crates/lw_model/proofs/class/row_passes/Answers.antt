@@ -1,7 +1,7 @@
 use Rattle.std.proofs.Common.{get_or, add-one, refl, inr, below_more, arith}
 use Rattle.std.proofs.lemmas.List.Elements.{Contains-get_or}
 use Rattle.lw_formula.specs.FiniteModel.{Sees}
-use Rattle.lw_model.proofs.Covers.{places-pass}
+use Rattle.lw_model.proofs.CoveredPairs.{places-pass}
 use Rattle.lw_model.proofs.class.row_passes.Goals as goal
 
 pub returns-then-not-passes-clause-needed : goal.returns-then-not-passes-clause-needed

@@ -1,5 +1,5 @@
 use Rattle.std.proofs.Common.{◌≡◌, ℕ, ◌<◌}
-use Rattle.lw_model.proofs.Covers.{PassesAt, world_before}
+use Rattle.lw_model.proofs.CoveredPairs.{PassesAt, world_before}
 use Rattle.lw_model.proofs.class.row_passes.Given as goal
 
 abbrev pub invariant-loop-to : goal.invariant-loop-to

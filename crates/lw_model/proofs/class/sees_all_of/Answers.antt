@@ -1,7 +1,7 @@
 use Rattle.std.proofs.Common.{rules, tests}
 use Rattle.std.proofs.lemmas.Iterator.{cases_from_all, YieldsList-from_slice}
 use Rattle.lw_formula.specs.FiniteModel.{Sees}
-use Rattle.lw_model.proofs.Frames.{iff_from_cases}
+use Rattle.lw_model.proofs.FrameTests.{iff_from_cases}
 use Rattle.lw_model.proofs.class.sees_all_of.Goals as goal
 
 pub returns : goal.returns

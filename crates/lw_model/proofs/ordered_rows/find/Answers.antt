@@ -1,6 +1,6 @@
 use Rattle.std.proofs.Common.{◌≡◌, ◌∙◌, [], length, get_or, add-one, ap, sym}
 use Rattle.std.proofs.lemmas.List.{get_or_default}
-use Rattle.lw_model.proofs.Numbered.{place-here, left-later, left-all, left-none}
+use Rattle.lw_model.proofs.RowsEndToEnd.{place-here, left-later, left-all, left-none}
 use Rattle.lw_model.proofs.ordered_rows.find.Goals as goal
 
 pub loop-at-init : goal.loop-at-init

@@ -1,4 +1,4 @@
-use Rattle.lw_model.proofs.Numbered.{IsLeft}
+use Rattle.lw_model.proofs.RowsEndToEnd.{IsLeft}
 use Rattle.lw_model.proofs.ordered_rows.find.Given as goal
 
 abbrev pub invariant-loop-at : goal.invariant-loop-at

@@ -1,4 +1,4 @@
-use Rattle.lw_model.proofs.Numbered.{IsGrown-push}
+use Rattle.lw_model.proofs.RowsEndToEnd.{IsGrown-push}
 use Rattle.lw_model.proofs.ordered_rows.grow.Goals as goal
 
 pub loop-alloc-preserved : goal.loop-alloc-preserved

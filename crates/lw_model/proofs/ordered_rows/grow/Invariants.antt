@@ -1,5 +1,5 @@
 use Rattle.std.proofs.Common.{◌+◌, ◌-◌, length}
-use Rattle.lw_model.specs.Ordered.{IsGrown}
+use Rattle.lw_model.specs.Private.OrderedRows.{IsGrown}
 use Rattle.lw_model.proofs.ordered_rows.grow.Given as goal
 
 abbrev pub invariant-loop-alloc : goal.invariant-loop-alloc

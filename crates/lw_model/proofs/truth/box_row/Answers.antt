@@ -2,7 +2,7 @@ use Rattle.std.proofs.Common.{ℕ, ◌<◌, false, length, get_or, IsTrue, ◌�
 use Rattle.std.specs.Bool.{Decides}
 use Rattle.std.proofs.lemmas.List.{length-set}
 use Rattle.lw_formula.specs.FiniteModel.{Sees}
-use Rattle.lw_model.proofs.Rows.{IsRow-nec, seen-within, set-below}
+use Rattle.lw_model.proofs.TruthRows.{IsRow-nec, seen-within, set-below}
 use Rattle.lw_model.proofs.truth.box_row.Goals as goal
 
 pub is_true_at_all-requires : goal.is_true_at_all-requires

@@ -2,7 +2,7 @@ use Rattle.std.proofs.Common.{ℕ, ◌<◌, false, length, get_or, IsTrue, ◌�
 use Rattle.std.specs.Bool.{Decides}
 use Rattle.std.proofs.lemmas.List.{length-set}
 use Rattle.lw_formula.specs.FiniteModel.{Sees}
-use Rattle.lw_model.proofs.Rows.{IsRow-poss, seen-within, set-below}
+use Rattle.lw_model.proofs.TruthRows.{IsRow-poss, seen-within, set-below}
 use Rattle.lw_model.proofs.truth.dia_row.Goals as goal
 
 pub is_true_at_some-requires : goal.is_true_at_some-requires

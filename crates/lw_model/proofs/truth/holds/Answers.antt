@@ -3,10 +3,10 @@ use Rattle.std.proofs.lemmas.List.{length_push}
 use Rattle.std.proofs.lemmas.List.Elements.{All-push}
 use Rattle.lw_formula.specs.Formula.{falsum}
 use Rattle.lw_formula.specs.Truth.{true_at}
-use Rattle.lw_formula.proofs.Truths.{true_at-IsTrueAt}
+use Rattle.lw_formula.proofs.TruthTest.{true_at-IsTrueAt}
 use Rattle.lw_pool.specs.Region.{tree_at}
-use Rattle.lw_model.specs.Table.{IsRow}
-use Rattle.lw_model.proofs.Rows.{AreRows-push}
+use Rattle.lw_model.specs.Private.TruthTable.{IsRow}
+use Rattle.lw_model.proofs.TruthRows.{AreRows-push}
 use Rattle.lw_model.proofs.truth.holds.Goals as goal
 
 pub loop-at-preserved : goal.loop-at-preserved

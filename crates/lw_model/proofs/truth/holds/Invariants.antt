@@ -1,6 +1,6 @@
 use Rattle.std.proofs.Common.{◌≡◌, length}
 use Rattle.std.specs.List.{All}
-use Rattle.lw_model.specs.Table.{AreRows}
+use Rattle.lw_model.specs.Private.TruthTable.{AreRows}
 use Rattle.lw_model.proofs.truth.holds.Given as goal
 
 abbrev pub invariant-loop-at : goal.invariant-loop-at

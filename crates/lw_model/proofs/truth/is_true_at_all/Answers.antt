@@ -1,7 +1,7 @@
 use Rattle.std.proofs.Common.{false, get_or, ◌∙◌, sym, refl, below_more, IsTrue, arith}
 use Rattle.std.proofs.lemmas.Bool.{false≢true}
 use Rattle.std.proofs.lemmas.List.Elements.{Contains-get_or}
-use Rattle.lw_model.proofs.Rows.{each-Contains}
+use Rattle.lw_model.proofs.TruthRows.{each-Contains}
 use Rattle.lw_model.proofs.truth.is_true_at_all.Goals as goal
 
 pub returns-then-not-at : goal.returns-then-not-at

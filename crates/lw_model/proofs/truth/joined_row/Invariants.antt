@@ -1,5 +1,5 @@
 use Rattle.std.proofs.Common.{◌≡◌, ℕ, ◌<◌, false, length, get_or}
-use Rattle.lw_model.specs.Table.{truth_table}
+use Rattle.lw_model.specs.Private.TruthTable.{truth_table}
 use Rattle.lw_model.proofs.truth.joined_row.Given as goal
 
 abbrev pub invariant-loop-world : goal.invariant-loop-world

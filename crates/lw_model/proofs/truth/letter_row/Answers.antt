@@ -2,7 +2,7 @@ use Rattle.std.proofs.Common.{◌∙◌, ◌<◌, length, arith}
 use Rattle.std.specs.Bool.{Decides}
 use Rattle.std.proofs.lemmas.List.{length-set}
 use Rattle.lw_formula.specs.FiniteModel.{HasFact}
-use Rattle.lw_model.proofs.Rows.{IsRow-letter, set-below}
+use Rattle.lw_model.proofs.TruthRows.{IsRow-letter, set-below}
 use Rattle.lw_model.proofs.truth.letter_row.Goals as goal
 
 pub loop-world-preserved : goal.loop-world-preserved

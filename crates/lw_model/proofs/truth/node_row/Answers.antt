@@ -1,8 +1,8 @@
 use Rattle.std.proofs.Common.{ap}
 use Rattle.lw_formula.specs.Formula.{neg, nec, poss}
 use Rattle.lw_pool.specs.Region.{tree_of_node}
-use Rattle.lw_model.specs.declared.truth.Connective.TheVariants.{And, Or, Imp, Iff}
-use Rattle.lw_model.proofs.Rows.{one_operand, two_operands}
+use Rattle.lw_formula.specs.declared.joint.Joint.TheVariants.{And, Or, Imp, Iff}
+use Rattle.lw_model.proofs.TruthRows.{one_operand, two_operands}
 use Rattle.lw_model.proofs.truth.node_row.Goals as goal
 
 pub returns-in-Not-clause-truth : goal.returns-in-Not-clause-truth

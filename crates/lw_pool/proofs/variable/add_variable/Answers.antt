@@ -1,7 +1,7 @@
 use Rattle.std.proofs.Common.{subst, sym}
 use Rattle.std.proofs.lemmas.Result.{on_ok_weaker}
 use Rattle.lw_pool.specs.declared.node.Node.{Node}
-use Rattle.lw_pool.specs.Walk.{AddsOwnName}
+use Rattle.lw_pool.specs.Private.IdWalk.{AddsOwnName}
 use Rattle.lw_pool.proofs.variable.add_variable.Goals as goal
 
 pub returns-in-Var : goal.returns-in-Var

@@ -1,4 +1,4 @@
-use Rattle.lw_proof.proofs.Exact.{break_is_exact}
+use Rattle.lw_proof.proofs.FirstBreaks.{break_is_exact}
 use Rattle.lw_proof.proofs.laws.first_break_is_exact.Goals as goal
 
 pub returns : goal.returns

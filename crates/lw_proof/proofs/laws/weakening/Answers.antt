@@ -1,4 +1,4 @@
-use Rattle.lw_proof.proofs.Larger.{larger_closed}
+use Rattle.lw_proof.proofs.LargerSets.{larger_closed}
 use Rattle.lw_proof.proofs.laws.weakening.Goals as goal
 
 pub returns : goal.returns

@@ -1,4 +1,4 @@
-use Rattle.lw_read.proofs.Back.{one-answer}
+use Rattle.lw_read.proofs.FaultlessTexts.{one-answer}
 use Rattle.lw_read.proofs.laws.one_answer.Goals as goal
 
 pub returns : goal.returns

@@ -1,4 +1,4 @@
-use Rattle.lw_read.proofs.Accepts.{same_tree}
+use Rattle.lw_read.proofs.MachineAccepts.{same_tree}
 use Rattle.lw_read.proofs.laws.one_tree.Goals as goal
 
 pub returns : goal.returns

@@ -1,7 +1,7 @@
 use Rattle.std.proofs.Common.{◌≡◌, ℕ, ◌+◌, ◌*◌, ◌-◌, ◌≤◌, ◌∙◌, sym, arith, fold, drop, get_or}
 use Rattle.std.proofs.lemmas.List.{at_drop_more}
 use Rattle.std.proofs.lemmas.Bool.Decides.{nat_tests}
-use Rattle.lw_read.proofs.Lexed.{fold-grows}
+use Rattle.lw_read.proofs.TokenSteps.{fold-grows}
 use Rattle.lw_read.specs.Tokens.{decimal}
 use Rattle.lw_read.proofs.lexer.fits_number.Goals as goal
 

@@ -1,6 +1,6 @@
 use Rattle.std.proofs.Common.{◌≡◌, ◌+◌, ◌++◌, ◌∙◌, ◌∷◌, [], sym, ap, subst, arith, length}
 use Rattle.lw_read.specs.Tokens.{AreInOrder, tokens_of}
-use Rattle.lw_read.proofs.Lexed.{IsBehind, IsBehind-blank, IsBehind-piece, tokens_wrong, tokens_end, tokens-order, joined}
+use Rattle.lw_read.proofs.TokenSteps.{IsBehind, IsBehind-blank, IsBehind-piece, tokens_wrong, tokens_end, tokens-order, joined}
 use Rattle.lw_read.proofs.lexer.tokens.Goals as goal
 use Rattle.lw_read.proofs.lexer.tokens.Goals.{In-Blank, In-Piece, In-Wrong}
 

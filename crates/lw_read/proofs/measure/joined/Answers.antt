@@ -1,7 +1,7 @@
 use Rattle.std.proofs.Common.{◌≡◌, ◌+◌, length}
-use Rattle.lw_read.specs.Grammar.{join}
+use Rattle.lw_formula.specs.Joint.{join}
 use Rattle.lw_read.specs.Text.{text_of, operand_text}
-use Rattle.lw_read.proofs.Lengths.{join-length, sum-min}
+use Rattle.lw_read.proofs.TextLengths.{join-length, sum-min}
 use Rattle.lw_read.proofs.measure.joined.Goals as goal
 
 pub returns-clause-length : goal.returns-clause-length

@@ -1,6 +1,6 @@
 use Rattle.std.proofs.Common.{subst, sym}
-use Rattle.lw_read.specs.Measures.{AreMeasures}
-use Rattle.lw_read.proofs.Lengths.{AreMeasures-push}
+use Rattle.lw_read.specs.Private.TextMeasures.{AreMeasures}
+use Rattle.lw_read.proofs.TextLengths.{AreMeasures-push}
 use Rattle.lw_read.proofs.measure.text_length.Goals as goal
 
 pub loop-at-preserved : goal.loop-at-preserved

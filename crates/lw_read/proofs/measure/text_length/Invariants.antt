@@ -1,5 +1,5 @@
 use Rattle.std.proofs.Common.{◌≡◌, length}
-use Rattle.lw_read.specs.Measures.{AreMeasures}
+use Rattle.lw_read.specs.Private.TextMeasures.{AreMeasures}
 use Rattle.lw_read.proofs.measure.text_length.Given as goal
 
 abbrev pub invariant-loop-at : goal.invariant-loop-at

@@ -1,7 +1,7 @@
 use Rattle.std.proofs.Common.{Some}
 use Rattle.std.proofs.lemmas.List.Elements.{All-pop}
-use Rattle.lw_read.specs.Pieces.{IsLivePiece}
-use Rattle.lw_read.proofs.Piecewise.{pieces-kept}
+use Rattle.lw_read.specs.Private.PrinterPieces.{IsLivePiece}
+use Rattle.lw_read.proofs.PrinterPieces.{pieces-kept}
 use Rattle.lw_read.proofs.pool_printer.write_formula.Goals as goal
 
 pub loop-piece-preserved : goal.loop-piece-preserved

@@ -1,7 +1,7 @@
 use Rattle.std.proofs.Common.{◌≡◌, ◌++◌, All}
 use Rattle.lw_pool.specs.Region.{tree_at}
 use Rattle.lw_read.specs.Text.{text_of}
-use Rattle.lw_read.specs.Pieces.{pieces_text, pieces_weight, IsLivePiece}
+use Rattle.lw_read.specs.Private.PrinterPieces.{pieces_text, pieces_weight, IsLivePiece}
 use Rattle.lw_read.proofs.pool_printer.write_formula.Given as goal
 
 -- what is written and what the pieces stand for make the text

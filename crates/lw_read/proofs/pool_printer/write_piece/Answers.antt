@@ -2,9 +2,9 @@ use Rattle.std.proofs.Common.{◌≡◌, [], refl, sym, ap, ◌∙◌, subst, ar
 use Rattle.std.proofs.lemmas.List.{append-nil}
 use Rattle.lw_pool.specs.Region.{tree_at, IsLive}
 use Rattle.lw_read.specs.Text.{text_of, tightness}
-use Rattle.lw_read.specs.Pieces.{IsLivePiece}
+use Rattle.lw_read.specs.Private.PrinterPieces.{IsLivePiece}
 use Rattle.lw_read.specs.declared.pool_printer.Piece.TheVariants.{Operand, ModalOperand}
-use Rattle.lw_read.proofs.Piecewise.{writes-node, writes-bracketed, operand-bare, operand-bracketed, modal-bare, modal-bracketed}
+use Rattle.lw_read.proofs.PrinterPieces.{writes-node, writes-bracketed, operand-bare, operand-bracketed, modal-bare, modal-bracketed}
 use Rattle.lw_read.proofs.pool_printer.write_piece.Goals as goal
 
 pub returns-in_ok-write_bracketed-in-Operand : goal.returns-in_ok-write_bracketed-in-Operand

@@ -3,8 +3,8 @@ use Rattle.std.proofs.lemmas.Result.{err_from_is_err_and}
 use Rattle.std.specs.List.{slice_range}
 use Rattle.lw_formula.specs.Tree.{tree_of}
 use Rattle.lw_read.specs.Lexemes.{lexeme_of}
-use Rattle.lw_read.specs.Machine.{step, go_on}
-use Rattle.lw_read.specs.Views.{lexeme, frames, state, Refuses}
+use Rattle.lw_read.specs.Private.FormulaMachine.{step, go_on}
+use Rattle.lw_read.specs.Private.ReaderViews.{lexeme, frames, state, Refuses}
 use Rattle.lw_read.proofs.reader.advanced.Goals as goal
 
 pub returns-in_err-next-in-Operand-clause-fault : goal.returns-in_err-next-in-Operand-clause-fault

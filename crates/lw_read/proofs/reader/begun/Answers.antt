@@ -1,8 +1,8 @@
 use Rattle.std.proofs.Common.{sym, subst}
 use Rattle.std.proofs.lemmas.Result.{err_from_is_err_and}
 use Rattle.lw_read.specs.Lexemes.{other_lexeme}
-use Rattle.lw_read.specs.Machine.{begin}
-use Rattle.lw_read.specs.Views.{lexeme, frames, Refuses}
+use Rattle.lw_read.specs.Private.FormulaMachine.{begin}
+use Rattle.lw_read.specs.Private.ReaderViews.{lexeme, frames, Refuses}
 use Rattle.lw_read.proofs.reader.begun.Goals as goal
 
 pub returns-in_err-named-in-Word-clause-fault : goal.returns-in_err-named-in-Word-clause-fault

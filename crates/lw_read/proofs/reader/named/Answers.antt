@@ -2,9 +2,9 @@ use Rattle.std.proofs.Common.{◌≡◌, false, Err, sym, subst, ap, refl}
 use Rattle.lw_formula.specs.Formula.{letter}
 use Rattle.lw_formula.specs.Name.{is_name}
 use Rattle.lw_read.specs.Lexemes.{Foreign, other_lexeme}
-use Rattle.lw_read.specs.Machine.{Astray, begin}
-use Rattle.lw_read.specs.Views.{IsShortVariable}
-use Rattle.lw_read.proofs.Named.{IsShortVariable-name, refused, true_unless}
+use Rattle.lw_read.specs.Private.FormulaMachine.{Astray, begin}
+use Rattle.lw_read.specs.Private.ReaderViews.{IsShortVariable}
+use Rattle.lw_read.proofs.NameTests.{IsShortVariable-name, refused, true_unless}
 use Rattle.lw_read.proofs.reader.named.Goals as goal
 
 pub returns-in-Ok-clause-ok : goal.returns-in-Ok-clause-ok

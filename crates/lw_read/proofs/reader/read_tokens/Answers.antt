@@ -5,10 +5,10 @@ use Rattle.lw_read.specs.declared.lexer.Token.{Token}
 use Rattle.lw_read.specs.declared.lexer.TokenKind.TheVariants.{Word}
 use Rattle.lw_read.specs.Tokens.{tokens_of}
 use Rattle.lw_read.specs.Lexemes.{lexeme_of}
-use Rattle.lw_read.specs.Machine.{step}
+use Rattle.lw_read.specs.Private.FormulaMachine.{step}
 use Rattle.lw_read.specs.Grammar.{IsFaultOf}
-use Rattle.lw_read.specs.Views.{frames, state, Keeps, Refuses}
-use Rattle.lw_read.proofs.Faults.{ReachedIn, ReachedIn-more, tells, reads, open-never, token-fits, IsDone}
+use Rattle.lw_read.specs.Private.ReaderViews.{frames, state, Keeps, Refuses}
+use Rattle.lw_read.proofs.FirstFaults.{ReachedIn, ReachedIn-more, tells, reads, open-never, token-fits, IsDone}
 use Rattle.lw_read.proofs.reader.read_tokens.Goals as goal
 
 -- the token that the loop reads past the last one

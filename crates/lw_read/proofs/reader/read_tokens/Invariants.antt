@@ -1,5 +1,5 @@
-use Rattle.lw_read.specs.Views.{frames, state}
-use Rattle.lw_read.proofs.Faults.{ReachedIn}
+use Rattle.lw_read.specs.Private.ReaderViews.{frames, state}
+use Rattle.lw_read.proofs.FirstFaults.{ReachedIn}
 use Rattle.lw_read.proofs.reader.read_tokens.Given as goal
 
 abbrev pub invariant-loop-token : goal.invariant-loop-token

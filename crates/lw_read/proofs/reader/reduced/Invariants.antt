@@ -1,8 +1,8 @@
 use Rattle.std.proofs.Common.{◌≡◌, List, vec_len}
 use Rattle.lw_formula.specs.Formula.{Formula}
 use Rattle.lw_formula.specs.Tree.{tree_of}
-use Rattle.lw_read.specs.Machine.{Frame, State, reduce}
-use Rattle.lw_read.specs.Views.{frames}
+use Rattle.lw_read.specs.Private.FormulaMachine.{Frame, State, reduce}
+use Rattle.lw_read.specs.Private.ReaderViews.{frames}
 use Rattle.lw_read.proofs.reader.reduced.Given as goal
 
 abbrev pub invariant-tighter : goal.invariant-tighter

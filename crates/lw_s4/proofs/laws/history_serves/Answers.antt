@@ -1,4 +1,4 @@
-use Rattle.lw_s4.proofs.Serving.{serves}
+use Rattle.lw_s4.proofs.HistoryServed.{serves}
 use Rattle.lw_s4.proofs.laws.history_serves.Goals as goal
 
 pub returns : goal.returns

@@ -1,4 +1,4 @@
-use Rattle.lw_s4.proofs.Ranked.{ranked}
+use Rattle.lw_s4.proofs.S4Ranking.{ranked}
 use Rattle.lw_s4.proofs.searching.search_s4.Goals as goal
 
 pub search-requires-clause-ranked : goal.search-requires-clause-ranked

@@ -4,10 +4,10 @@ use Rattle.lw_sat.specs.Closing.{Closes}
 use Rattle.lw_sat.specs.Course.{label, steps_held, FoundFits, FoundSteps}
 use Rattle.lw_sat.specs.Saturated.{every}
 use Rattle.lw_sat.specs.Sets.{among}
-use Rattle.lw_sat.proofs.Coursing.{every_survives}
-use Rattle.lw_s5.specs.Rooted.{IsChild}
-use Rattle.lw_s5.proofs.Children.{seed_begins, seed_keeps, step_closes}
-use Rattle.lw_s5.proofs.Labels.{has_label, unclosed_from}
+use Rattle.lw_sat.proofs.SaturationCourse.{every_survives}
+use Rattle.lw_s5.specs.Private.RootedSearch.{IsChild}
+use Rattle.lw_s5.proofs.ChildSeeds.{seed_begins, seed_keeps, step_closes}
+use Rattle.lw_s5.proofs.DecidedLabels.{has_label, unclosed_from}
 use Rattle.lw_s5.proofs.child.child.Goals as goal
 
 pub next-requires-clause-under : goal.next-requires-clause-under

@@ -6,8 +6,8 @@ use Rattle.lw_proof.specs.Derivation.{is_modal_part}
 use Rattle.lw_closure.specs.Table.{entry_at, item_count}
 use Rattle.lw_sat.specs.Course.{label}
 use Rattle.lw_sat.specs.Sets.{among}
-use Rattle.lw_s5.proofs.Children.{modal_of, seed_listed}
-use Rattle.lw_s5.proofs.Listed.{list_all, list_more, list_skip}
+use Rattle.lw_s5.proofs.ChildSeeds.{modal_of, seed_listed}
+use Rattle.lw_s5.proofs.ItemLists.{list_all, list_more, list_skip}
 use Rattle.lw_s5.proofs.child.seed.Goals as goal
 use Rattle.lw_s5.proofs.child.seed.Goals.{then-is_modal+then-has+in_ok-push, else-is_modal, else-is_modal-via-then-is_modal+else-has, else-is_modal-via-else-is_modal}
 

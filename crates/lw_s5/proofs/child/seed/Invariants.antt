@@ -3,8 +3,8 @@ use Rattle.std.specs.List.{All}
 use Rattle.lw_closure.specs.Table.{item_count}
 use Rattle.lw_sat.specs.Course.{label}
 use Rattle.lw_sat.specs.Sets.{among}
-use Rattle.lw_s5.proofs.Children.{modal_of}
-use Rattle.lw_s5.proofs.Listed.{first}
+use Rattle.lw_s5.proofs.ChildSeeds.{modal_of}
+use Rattle.lw_s5.proofs.ItemLists.{first}
 use Rattle.lw_s5.proofs.child.seed.Given as goal
 
 abbrev pub invariant-loop-kept : goal.invariant-loop-kept

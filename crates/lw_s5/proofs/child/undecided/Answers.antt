@@ -3,8 +3,8 @@ use Rattle.std.proofs.lemmas.Bool.{both_ways}
 use Rattle.lw_proof.specs.Derivation.{is_modal_part}
 use Rattle.lw_closure.specs.Table.{entry_at}
 use Rattle.lw_sat.specs.Course.{label}
-use Rattle.lw_s5.specs.Rooted.{decides}
-use Rattle.lw_s5.proofs.Labels.{decided_by}
+use Rattle.lw_s5.specs.Private.RootedSearch.{decides}
+use Rattle.lw_s5.proofs.DecidedLabels.{decided_by}
 use Rattle.lw_s5.proofs.child.undecided.Goals as goal
 use Rattle.lw_s5.proofs.child.undecided.Goals.{else-is_modal-via-then-is_modal+then-decides+else-not-decides, else-is_modal-via-then-is_modal+else-decides, else-is_modal-via-else-is_modal}
 

@@ -2,7 +2,7 @@ use Rattle.std.proofs.Common.{ℕ, ◌≡◌, ◌*◌, ◌<◌, true}
 use Rattle.lw_proof.specs.Derivation.{is_modal_part}
 use Rattle.lw_closure.specs.Table.{entry_at}
 use Rattle.lw_sat.specs.Course.{label}
-use Rattle.lw_s5.specs.Rooted.{decides}
+use Rattle.lw_s5.specs.Private.RootedSearch.{decides}
 use Rattle.lw_s5.proofs.child.undecided.Given as goal
 
 abbrev pub invariant-loop-formula : goal.invariant-loop-formula

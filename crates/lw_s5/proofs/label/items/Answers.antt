@@ -4,7 +4,7 @@ use Rattle.std.proofs.lemmas.List.Elements.{All-push}
 use Rattle.lw_closure.specs.Table.{item_count}
 use Rattle.lw_sat.specs.Course.{label}
 use Rattle.lw_sat.specs.Sets.{among}
-use Rattle.lw_s5.proofs.Listed.{list_all, list_more, list_skip}
+use Rattle.lw_s5.proofs.ItemLists.{list_all, list_more, list_skip}
 use Rattle.lw_s5.proofs.label.items.Goals as goal
 use Rattle.lw_s5.proofs.label.items.Goals.{then-has+in_ok-push, else-has}
 

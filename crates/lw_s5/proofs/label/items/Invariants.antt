@@ -3,7 +3,7 @@ use Rattle.std.specs.List.{All}
 use Rattle.lw_closure.specs.Table.{item_count}
 use Rattle.lw_sat.specs.Course.{label}
 use Rattle.lw_sat.specs.Sets.{among}
-use Rattle.lw_s5.proofs.Listed.{first}
+use Rattle.lw_s5.proofs.ItemLists.{first}
 use Rattle.lw_s5.proofs.label.items.Given as goal
 
 abbrev pub invariant-loop-item : goal.invariant-loop-item

@@ -2,8 +2,8 @@ use Rattle.std.proofs.Common.{◌≡◌, ◌+◌, Some, None, sym, ap, subst, �
 use Rattle.lw_closure.specs.Table.{item_count}
 use Rattle.lw_counter.specs.Fragment.{with_world}
 use Rattle.lw_sat.specs.Course.{label}
-use Rattle.lw_s5.specs.Rooted.{Surrounds}
-use Rattle.lw_s5.proofs.Around.{empty, none_asked, one_served, root_alone}
+use Rattle.lw_s5.specs.Private.RootedSearch.{Surrounds}
+use Rattle.lw_s5.proofs.RootFragments.{empty, none_asked, one_served, root_alone}
 use Rattle.lw_s5.proofs.root.surround.Goals as goal
 use Rattle.lw_s5.proofs.root.surround.Goals.{in-Some+in_ok-label-2+in_ok-add-2, in_default}
 

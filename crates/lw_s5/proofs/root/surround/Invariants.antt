@@ -1,5 +1,5 @@
 use Rattle.lw_sat.specs.Course.{label}
-use Rattle.lw_s5.specs.Rooted.{Surrounds}
+use Rattle.lw_s5.specs.Private.RootedSearch.{Surrounds}
 use Rattle.lw_s5.proofs.root.surround.Given as goal
 
 abbrev pub invariant-loop-item : goal.invariant-loop-item

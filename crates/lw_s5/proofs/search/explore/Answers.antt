@@ -2,10 +2,10 @@ use Rattle.std.proofs.Common.{[], ◌∷◌, refl, subst, arith}
 use Rattle.lw_sat.specs.Course.{label, steps_held, FoundFits, FoundSteps}
 use Rattle.lw_sat.specs.Saturated.{every}
 use Rattle.lw_sat.specs.Sets.{among}
-use Rattle.lw_sat.proofs.Coursing.{every_survives}
-use Rattle.lw_s5.specs.Rooted.{IsObstacle}
-use Rattle.lw_s5.proofs.Around.{explored}
-use Rattle.lw_s5.proofs.Labels.{has_label, unclosed_from}
+use Rattle.lw_sat.proofs.SaturationCourse.{every_survives}
+use Rattle.lw_s5.specs.Private.RootedSearch.{IsObstacle}
+use Rattle.lw_s5.proofs.RootFragments.{explored}
+use Rattle.lw_s5.proofs.DecidedLabels.{has_label, unclosed_from}
 use Rattle.lw_s5.proofs.search.explore.Goals as goal
 
 pub loop-root-init : goal.loop-root-init

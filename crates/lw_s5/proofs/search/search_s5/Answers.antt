@@ -4,7 +4,7 @@ use Rattle.lw_formula.specs.Formula.{depth, modal_count}
 use Rattle.lw_pool.specs.Region.{signed_at, tree_at}
 use Rattle.lw_model.specs.Bounds.{step_bound}
 use Rattle.lw_sat.specs.Sets.{among}
-use Rattle.lw_s5.proofs.Labels.{kept_alike}
+use Rattle.lw_s5.proofs.DecidedLabels.{kept_alike}
 use Rattle.lw_s5.proofs.search.search_s5.Goals as goal
 
 pub explore-requires-clause-alike : goal.explore-requires-clause-alike

@@ -1,7 +1,7 @@
 use Rattle.std.proofs.Common.{[], refl}
 use Rattle.lw_sat.specs.Saturated.{every}
 use Rattle.lw_sat.specs.Sets.{among}
-use Rattle.lw_s5.proofs.Labels.{has_label, unclosed_from}
+use Rattle.lw_s5.proofs.DecidedLabels.{has_label, unclosed_from}
 use Rattle.lw_s5.proofs.tests.first_label.Goals as goal
 
 pub next-requires-clause-under : goal.next-requires-clause-under

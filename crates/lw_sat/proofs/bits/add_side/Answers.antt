@@ -1,4 +1,4 @@
-use Rattle.lw_sat.proofs.Pouring.{added_both}
+use Rattle.lw_sat.proofs.LastRowChanges.{added_both}
 use Rattle.lw_sat.proofs.bits.add_side.Goals as goal
 
 pub returns-in-Some : goal.returns-in-Some

@@ -1,5 +1,5 @@
 use Rattle.lw_sat.specs.Sets.{top, Replaces}
-use Rattle.lw_sat.proofs.Pouring.{poured}
+use Rattle.lw_sat.proofs.LastRowChanges.{poured}
 use Rattle.lw_sat.proofs.bits.pour.Given as goal
 
 abbrev pub invariant-loop-item : goal.invariant-loop-item

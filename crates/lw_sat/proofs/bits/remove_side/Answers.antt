@@ -1,4 +1,4 @@
-use Rattle.lw_sat.proofs.Pouring.{removed_both}
+use Rattle.lw_sat.proofs.LastRowChanges.{removed_both}
 use Rattle.lw_sat.proofs.bits.remove_side.Goals as goal
 
 pub returns-in-Some : goal.returns-in-Some

@@ -1,9 +1,9 @@
 use Rattle.std.proofs.Common.{◌≡◌, ℕ, ◌-◌, take, ◌++◌, ◌∷◌, [], Bool, sym, ap, subst, ◌∙◌, arith}
 use Rattle.lw_proof.specs.System.{Set}
-use Rattle.lw_sat.specs.Path.{folded_steps, most_steps, FoldsTo}
+use Rattle.lw_sat.specs.SeedPath.{folded_steps, most_steps, FoldsTo}
 use Rattle.lw_sat.specs.Saturated.{every, IsAt, IsClosing}
-use Rattle.lw_sat.proofs.Leading.{most_steps-on}
-use Rattle.lw_sat.proofs.Unwinding.{all_closed, closes_above, folded_closed, folded_turned, room_closed, room_turned}
+use Rattle.lw_sat.proofs.PathEnds.{most_steps-on}
+use Rattle.lw_sat.proofs.UnwoundFrames.{all_closed, closes_above, folded_closed, folded_turned, room_closed, room_turned}
 use Rattle.lw_sat.proofs.closing.unwind.Goals as goal
 
 pub fold_frame-requires-clause-board : goal.fold_frame-requires-clause-board

@@ -1,7 +1,7 @@
 use Rattle.std.proofs.Common.{◌≡◌, ℕ, ◌≤◌, max, Bool, length}
 use Rattle.lw_proof.specs.Lean.{steps}
 use Rattle.lw_proof.specs.System.{Set}
-use Rattle.lw_sat.specs.Path.{most_steps, room_below, spot_of}
+use Rattle.lw_sat.specs.SeedPath.{most_steps, room_below, spot_of}
 use Rattle.lw_sat.specs.Saturated.{IsClosing}
 use Rattle.lw_sat.proofs.closing.unwind.Given as goal
 

@@ -2,7 +2,7 @@ use Rattle.std.proofs.Common.{sym, ap, ◌∙◌, arith}
 use Rattle.lw_proof.specs.Lean.{steps}
 use Rattle.lw_sat.specs.Sets.{top}
 use Rattle.lw_sat.specs.Moves.{listed}
-use Rattle.lw_sat.proofs.Using.{none_used, rests_alone, rests_as, rests_drop}
+use Rattle.lw_sat.proofs.UsedItems.{none_used, rests_alone, rests_as, rests_drop}
 use Rattle.lw_sat.proofs.fold.fold_alone.Goals as goal
 
 pub returns-then-not-has_any-clause-rests : goal.returns-then-not-has_any-clause-rests

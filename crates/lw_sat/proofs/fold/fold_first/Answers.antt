@@ -1,7 +1,7 @@
 use Rattle.std.proofs.Common.{sym, subst, refl, ◌∙◌}
 use Rattle.lw_sat.specs.Sets.{adding, sets, top, AreBelow}
 use Rattle.lw_sat.specs.Moves.{listed}
-use Rattle.lw_sat.proofs.Boards.{keep_then_back, kept_of, lower_of, back_restored, label_more, pushed_some}
+use Rattle.lw_sat.proofs.BoardSpots.{keep_then_back, kept_of, lower_of, back_restored, label_more, pushed_some}
 use Rattle.lw_sat.proofs.fold.fold_first.Goals as goal
 
 pub go_back-requires-clause-below : goal.go_back-requires-clause-below

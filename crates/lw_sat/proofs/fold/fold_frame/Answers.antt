@@ -1,6 +1,6 @@
 use Rattle.std.proofs.Common.{subst}
-use Rattle.lw_sat.specs.Path.{Link}
-use Rattle.lw_sat.proofs.Folding.{first_folds}
+use Rattle.lw_sat.specs.SeedPath.{Link}
+use Rattle.lw_sat.proofs.FoldedPremises.{first_folds}
 use Rattle.lw_sat.proofs.fold.fold_frame.Goals as goal
 
 pub returns-in_ok-folded-in-First-clause-folded : goal.returns-in_ok-folded-in-First-clause-folded

@@ -3,8 +3,8 @@ use Rattle.lw_proof.specs.Lean.{steps}
 use Rattle.lw_sat.specs.Sets.{top}
 use Rattle.lw_sat.specs.Moves.{listed}
 use Rattle.lw_sat.specs.Closing.{Rests}
-use Rattle.lw_sat.proofs.Using.{none_used, rests_branch, rests_as, rests_drop}
-use Rattle.lw_sat.proofs.Boards.{becomes_itself}
+use Rattle.lw_sat.proofs.UsedItems.{none_used, rests_branch, rests_as, rests_drop}
+use Rattle.lw_sat.proofs.BoardSpots.{becomes_itself}
 use Rattle.lw_sat.proofs.fold.fold_second.Goals as goal
 
 pub returns-then-not-has_any-clause-stays : goal.returns-then-not-has_any-clause-stays

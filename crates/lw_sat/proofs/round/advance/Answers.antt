@@ -1,10 +1,10 @@
 use Rattle.std.proofs.Common.{sym, ap, subst, ◌∙◌, arith}
 use Rattle.lw_sat.specs.Moves.{listed}
-use Rattle.lw_sat.specs.Path.{held_steps, most_steps}
+use Rattle.lw_sat.specs.SeedPath.{held_steps, most_steps}
 use Rattle.lw_sat.specs.Saturated.{every, FoldsAll, IsAt}
 use Rattle.lw_sat.specs.Sets.{top}
-use Rattle.lw_sat.proofs.Leading.{most_steps-on}
-use Rattle.lw_sat.proofs.Rounding.{at_items, branched, branched_room, grown, grown_room, leaf_closing}
+use Rattle.lw_sat.proofs.PathEnds.{most_steps-on}
+use Rattle.lw_sat.proofs.OneRound.{at_items, branched, branched_room, grown, grown_room, leaf_closing}
 use Rattle.lw_sat.proofs.round.advance.Goals as goal
 
 pub find-requires-clause-board : goal.find-requires-clause-board

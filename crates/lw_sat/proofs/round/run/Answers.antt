@@ -1,5 +1,5 @@
 use Rattle.lw_sat.specs.Saturated.{every}
-use Rattle.lw_sat.proofs.Coursing.{every_survives}
+use Rattle.lw_sat.proofs.SaturationCourse.{every_survives}
 use Rattle.lw_sat.proofs.round.run.Goals as goal
 
 pub advance-requires : goal.advance-requires

@@ -1,7 +1,7 @@
 use Rattle.std.proofs.Common.{◌≡◌, ℕ, ◌≤◌, Bool}
 use Rattle.lw_proof.specs.System.{Set}
 use Rattle.lw_sat.specs.Moves.{Survives}
-use Rattle.lw_sat.specs.Path.{most_steps}
+use Rattle.lw_sat.specs.SeedPath.{most_steps}
 use Rattle.lw_sat.specs.Saturated.{room, IsAt}
 use Rattle.lw_sat.proofs.round.run.Given as goal
 

@@ -1,8 +1,8 @@
 use Rattle.std.proofs.Common.{sym, ap, subst, ◌∙◌, ⊎_elim}
 use Rattle.std.proofs.lemmas.Bool.{and_parts, both_ways}
 use Rattle.lw_sat.specs.Sets.{top}
-use Rattle.lw_sat.specs.Working.{is_nothing, IsQuiet, IsWork}
-use Rattle.lw_sat.proofs.Finding.{one_more_quiet}
+use Rattle.lw_sat.specs.Private.LabelWork.{is_nothing, IsQuiet, IsWork}
+use Rattle.lw_sat.proofs.ItemDemands.{one_more_quiet}
 use Rattle.lw_sat.proofs.work.find.Goals as goal
 use Rattle.lw_sat.proofs.work.find.Goals.{then-has+in_default, else-has}
 

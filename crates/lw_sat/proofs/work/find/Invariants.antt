@@ -1,6 +1,6 @@
 use Rattle.std.proofs.Common.{◌≡◌, ℕ, ◌<◌, true}
 use Rattle.lw_sat.specs.Sets.{top}
-use Rattle.lw_sat.specs.Working.{is_nothing, IsQuiet, IsWork}
+use Rattle.lw_sat.specs.Private.LabelWork.{is_nothing, IsQuiet, IsWork}
 use Rattle.lw_sat.proofs.work.find.Given as goal
 
 abbrev pub invariant-loop-item : goal.invariant-loop-item

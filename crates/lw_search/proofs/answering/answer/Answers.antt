@@ -2,7 +2,7 @@ use Rattle.std.proofs.Common.{◌≡◌, subst}
 use Rattle.lw_counter.specs.Fragment.{formulas_of}
 use Rattle.lw_counter.specs.Countermodel.{IsModelOf}
 use Rattle.lw_search.specs.Outcome.{OutcomeFits}
-use Rattle.lw_search.proofs.Answered.{closed_answers, open_answers}
+use Rattle.lw_search.proofs.LoopAnswers.{closed_answers, open_answers}
 use Rattle.lw_search.proofs.answering.answer.Goals as goal
 
 pub returns-in-Closed : goal.returns-in-Closed

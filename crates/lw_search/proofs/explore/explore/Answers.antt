@@ -1,6 +1,6 @@
 use Rattle.std.proofs.Common.{ap, ◌∙◌}
 use Rattle.lw_proof.specs.Derivation.{has_cut}
-use Rattle.lw_search.proofs.Starting.{begun, goal_of, guides_from}
+use Rattle.lw_search.proofs.FirstState.{begun, goal_of, guides_from}
 use Rattle.lw_search.specs.Ranked.{IsFor}
 use Rattle.lw_search.proofs.explore.explore.Goals as goal
 

@@ -1,6 +1,6 @@
 use Rattle.std.proofs.Common.{[], ◌∷◌}
 use Rattle.lw_sat.specs.Sets.{among}
-use Rattle.lw_search.specs.Levels.{IsUnderWork, work_room}
+use Rattle.lw_search.specs.Private.SearchLevels.{IsUnderWork, work_room}
 use Rattle.lw_search.specs.Ranked.{IsGoal}
 use Rattle.lw_search.proofs.explore.explore.Given as goal
 

@@ -1,6 +1,6 @@
 use Rattle.std.proofs.Common.{[], ap, subst, ◌∙◌}
-use Rattle.lw_counter.specs.Relation.{Joins, AddsPairs}
-use Rattle.lw_counter.proofs.Models.{made}
+use Rattle.lw_counter.specs.Private.BuiltRelation.{Joins, AddsPairs}
+use Rattle.lw_counter.proofs.GrownModels.{made}
 use Rattle.lw_counter.proofs.fragment.Fragment.close.Goals as goal
 
 pub returns : goal.returns

@@ -2,7 +2,7 @@ use Rattle.std.proofs.Common.{rules, ◌≡◌, refl}
 use Rattle.std.specs.List.{filter}
 use Rattle.std.proofs.lemmas.Fn.{filter_same}
 use Rattle.lw_counter.specs.Fragment.{is_below}
-use Rattle.lw_counter.proofs.Forms.{formed_cut}
+use Rattle.lw_counter.proofs.WellFormedFragments.{formed_cut}
 use Rattle.lw_counter.proofs.fragment.Fragment.cut.Goals as goal
 
 pub invariant_of-self : goal.invariant_of-self

@@ -1,4 +1,4 @@
-use Rattle.lw_counter.proofs.Squares.{set_bit}
+use Rattle.lw_counter.proofs.BitSquares.{set_bit}
 use Rattle.lw_counter.proofs.relation.Relation.add.Goals as goal
 
 pub returns : goal.returns

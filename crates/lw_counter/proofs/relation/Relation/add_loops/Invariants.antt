@@ -1,6 +1,6 @@
 use Rattle.std.proofs.Common.{◌≡◌}
-use Rattle.lw_counter.specs.Relation.{SetsBits}
-use Rattle.lw_counter.proofs.Squares.{Loops}
+use Rattle.lw_counter.specs.Private.BuiltRelation.{SetsBits}
+use Rattle.lw_counter.proofs.BitSquares.{Loops}
 use Rattle.lw_counter.proofs.relation.Relation.add_loops.Given as goal
 
 abbrev pub invariant-loop-at : goal.invariant-loop-at

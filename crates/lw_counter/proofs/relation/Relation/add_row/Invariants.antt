@@ -1,6 +1,6 @@
 use Rattle.std.proofs.Common.{◌≡◌}
-use Rattle.lw_counter.specs.Relation.{SetsBits}
-use Rattle.lw_counter.proofs.Squares.{InRow}
+use Rattle.lw_counter.specs.Private.BuiltRelation.{SetsBits}
+use Rattle.lw_counter.proofs.BitSquares.{InRow}
 use Rattle.lw_counter.proofs.relation.Relation.add_row.Given as goal
 
 abbrev pub invariant-loop-to : goal.invariant-loop-to

@@ -1,5 +1,5 @@
 use Rattle.std.proofs.Common.{arith}
-use Rattle.lw_counter.proofs.Squares.{closing_more, closing_end}
+use Rattle.lw_counter.proofs.BitSquares.{closing_more, closing_end}
 use Rattle.lw_counter.proofs.relation.Relation.close.Goals as goal
 
 pub loop-middle-preserved : goal.loop-middle-preserved

@@ -1,5 +1,5 @@
 use Rattle.std.proofs.Common.{◌≡◌}
-use Rattle.lw_counter.proofs.Squares.{IsClosing}
+use Rattle.lw_counter.proofs.BitSquares.{IsClosing}
 use Rattle.lw_counter.proofs.relation.Relation.close.Given as goal
 
 abbrev pub invariant-loop-middle : goal.invariant-loop-middle

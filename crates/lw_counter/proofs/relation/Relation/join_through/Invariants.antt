@@ -1,6 +1,6 @@
 use Rattle.std.proofs.Common.{◌≡◌}
-use Rattle.lw_counter.specs.Relation.{SetsBits}
-use Rattle.lw_counter.proofs.Squares.{Through}
+use Rattle.lw_counter.specs.Private.BuiltRelation.{SetsBits}
+use Rattle.lw_counter.proofs.BitSquares.{Through}
 use Rattle.lw_counter.proofs.relation.Relation.join_through.Given as goal
 
 abbrev pub invariant-loop-from : goal.invariant-loop-from

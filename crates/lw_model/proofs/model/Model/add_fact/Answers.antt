@@ -1,6 +1,6 @@
 use Rattle.std.proofs.Common.{◌<◌, subst, sym}
 use Rattle.lw_formula.specs.FiniteModel.{FiniteModel}
-use Rattle.lw_model.proofs.Additions.{IsWellFormed-facts, AddsFact-facts}
+use Rattle.lw_model.proofs.ModelAdditions.{IsWellFormed-facts, AddsFact-facts}
 use Rattle.lw_model.proofs.model.Model.add_fact.Goals as goal
 
 pub invariant_of-self : goal.invariant_of-self

@@ -1,6 +1,6 @@
 use Rattle.std.proofs.Common.{◌<◌, subst, sym}
 use Rattle.lw_formula.specs.FiniteModel.{FiniteModel}
-use Rattle.lw_model.proofs.Additions.{IsWellFormed-pairs, AddsPair-pairs}
+use Rattle.lw_model.proofs.ModelAdditions.{IsWellFormed-pairs, AddsPair-pairs}
 use Rattle.lw_model.proofs.model.Model.add_pair.Goals as goal
 
 pub invariant_of-self : goal.invariant_of-self

@@ -1,6 +1,6 @@
 use Rattle.std.proofs.Common.{◌≡◌, ◌∙◌, subst}
 use Rattle.std.specs.List.Sorted.{IsStrictlySortedBy}
-use Rattle.lw_model.proofs.Gaps.{absent}
+use Rattle.lw_model.proofs.ListGaps.{absent}
 use Rattle.lw_model.proofs.ordered_list.OrderedList.gap.Goals as goal
 
 pub returns-clause-gap : goal.returns-clause-gap

@@ -1,5 +1,5 @@
 use Rattle.std.proofs.lemmas.List.Elements.{All-nil}
-use Rattle.lw_model.proofs.Gaps.{sorted-nil}
+use Rattle.lw_model.proofs.ListGaps.{sorted-nil}
 use Rattle.lw_model.proofs.ordered_list.OrderedList.new.Goals as goal
 
 pub invariant_of-result : goal.invariant_of-result

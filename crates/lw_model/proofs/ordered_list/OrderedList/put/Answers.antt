@@ -1,4 +1,4 @@
-use Rattle.lw_model.proofs.Gaps.{sorted-insert, All-insert}
+use Rattle.lw_model.proofs.ListGaps.{sorted-insert, All-insert}
 use Rattle.lw_model.proofs.ordered_list.OrderedList.put.Goals as goal
 
 pub invariant_of-self-2 : goal.invariant_of-self-2

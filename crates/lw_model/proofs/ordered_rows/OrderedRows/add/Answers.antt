@@ -2,9 +2,9 @@ use Rattle.std.proofs.Common.{◌≡◌, ◌∙◌, ◌+◌, [], length, get_or,
 use Rattle.std.specs.List.{insert}
 use Rattle.std.proofs.lemmas.List.{get_or_default}
 use Rattle.lw_formula.specs.FiniteModel.{AreDistinct}
-use Rattle.lw_model.specs.Ordered.{numbered}
-use Rattle.lw_model.proofs.Additions.{OnErr-always}
-use Rattle.lw_model.proofs.Numbered.{IsInserted, row-Contains, lacks-item, there-Contains, put-grown, length-inserted, AreDistinct-inserted, inserted-Contains}
+use Rattle.lw_model.specs.Private.OrderedRows.{numbered}
+use Rattle.lw_model.proofs.ModelAdditions.{OnErr-always}
+use Rattle.lw_model.proofs.RowsEndToEnd.{IsInserted, row-Contains, lacks-item, there-Contains, put-grown, length-inserted, AreDistinct-inserted, inserted-Contains}
 use Rattle.lw_model.proofs.ordered_rows.OrderedRows.add.Goals as goal
 
 pub returns-in_default-clause-added : goal.returns-in_default-clause-added

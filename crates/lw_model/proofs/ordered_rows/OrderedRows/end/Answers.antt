@@ -1,5 +1,5 @@
 use Rattle.std.proofs.Common.{◌<◌, length, arith}
-use Rattle.lw_model.proofs.Numbered.{numbers-below}
+use Rattle.lw_model.proofs.RowsEndToEnd.{numbers-below}
 use Rattle.lw_model.proofs.ordered_rows.OrderedRows.end.Goals as goal
 
 pub returns : goal.returns

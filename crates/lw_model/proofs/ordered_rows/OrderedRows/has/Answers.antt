@@ -1,6 +1,6 @@
 use Rattle.std.proofs.Common.{[], get_or}
-use Rattle.lw_model.proofs.Numbered.{row-Contains}
-use Rattle.lw_model.proofs.Gaps.{gap-Decides}
+use Rattle.lw_model.proofs.RowsEndToEnd.{row-Contains}
+use Rattle.lw_model.proofs.ListGaps.{gap-Decides}
 use Rattle.lw_model.proofs.ordered_rows.OrderedRows.has.Goals as goal
 
 pub returns : goal.returns

@@ -1,6 +1,6 @@
 use Rattle.std.proofs.Common.{◌≡◌, [], get_or, sym, rules}
-use Rattle.lw_model.proofs.Gaps.{sorted-nil}
-use Rattle.lw_model.proofs.Numbered.{row-Contains}
+use Rattle.lw_model.proofs.ListGaps.{sorted-nil}
+use Rattle.lw_model.proofs.RowsEndToEnd.{row-Contains}
 use Rattle.lw_model.proofs.ordered_rows.OrderedRows.row.Goals as goal
 
 pub returns-in-Some-clause-exact : goal.returns-in-Some-clause-exact

@@ -1,4 +1,4 @@
-use Rattle.lw_pool.proofs.Insertion.{region_operands}
+use Rattle.lw_pool.proofs.NodeInsertion.{region_operands}
 use Rattle.lw_pool.proofs.pool.Pool.allocator.Goals as goal
 
 pub returns-clause-operands : goal.returns-clause-operands

@@ -1,6 +1,6 @@
 use Rattle.std.proofs.Common.{length, ap, arith}
-use Rattle.lw_pool.proofs.Listing.{length-trees}
-use Rattle.lw_pool.proofs.Insertion.{region_operands}
+use Rattle.lw_pool.proofs.NodeFormulas.{length-trees}
+use Rattle.lw_pool.proofs.NodeInsertion.{region_operands}
 use Rattle.lw_pool.proofs.pool.Pool.count.Goals as goal
 
 pub returns-clause-count : goal.returns-clause-count

@@ -1,5 +1,5 @@
-use Rattle.lw_pool.proofs.Insertion.{OnErr-always, region_absent, region_inserted}
-use Rattle.lw_pool.proofs.Growth.{Grows-made, IsAt-made}
+use Rattle.lw_pool.proofs.NodeInsertion.{OnErr-always, region_absent, region_inserted}
+use Rattle.lw_pool.proofs.RegionGrowth.{Grows-made, IsAt-made}
 use Rattle.lw_pool.proofs.pool.Pool.make.Goals as goal
 
 pub returns-in_err-index-clause-absent : goal.returns-in_err-index-clause-absent

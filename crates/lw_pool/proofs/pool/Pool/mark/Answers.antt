@@ -1,5 +1,5 @@
 use Rattle.std.proofs.Common.{length, ap, arith}
-use Rattle.lw_pool.proofs.Listing.{length-trees}
+use Rattle.lw_pool.proofs.NodeFormulas.{length-trees}
 use Rattle.lw_pool.proofs.pool.Pool.mark.Goals as goal
 
 pub returns : goal.returns

@@ -1,6 +1,6 @@
 use Rattle.std.proofs.Common.{subst, sym}
-use Rattle.lw_pool.specs.Walk.{AreDepths}
-use Rattle.lw_pool.proofs.Tables.{depths_push, most}
+use Rattle.lw_pool.specs.Private.IdWalk.{AreDepths}
+use Rattle.lw_pool.proofs.WalkTables.{depths_push, most}
 use Rattle.lw_pool.proofs.pool.Pool.modal_depth.Goals as goal
 
 pub loop-at-preserved : goal.loop-at-preserved

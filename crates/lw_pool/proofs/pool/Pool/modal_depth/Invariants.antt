@@ -1,5 +1,5 @@
 use Rattle.std.proofs.Common.{◌≡◌, length}
-use Rattle.lw_pool.specs.Walk.{AreDepths}
+use Rattle.lw_pool.specs.Private.IdWalk.{AreDepths}
 use Rattle.lw_pool.proofs.pool.Pool.modal_depth.Given as goal
 
 abbrev pub invariant-loop-at : goal.invariant-loop-at

@@ -1,7 +1,7 @@
 use Rattle.std.proofs.Common.{List, length, get_or, ap, ◌∙◌, arith}
 use Rattle.lw_pool.specs.declared.node.Node.{Node}
-use Rattle.lw_pool.proofs.Listing.{length-trees}
-use Rattle.lw_pool.proofs.Insertion.{region_node}
+use Rattle.lw_pool.proofs.NodeFormulas.{length-trees}
+use Rattle.lw_pool.proofs.NodeInsertion.{region_node}
 use Rattle.lw_pool.proofs.pool.Pool.node.Goals as goal
 
 pub entry-requires : goal.entry-requires

@@ -1,4 +1,4 @@
-use Rattle.lw_pool.proofs.Insertion.{region_cut}
+use Rattle.lw_pool.proofs.NodeInsertion.{region_cut}
 use Rattle.lw_pool.proofs.pool.Pool.release.Goals as goal
 
 pub invariant_of-self : goal.invariant_of-self

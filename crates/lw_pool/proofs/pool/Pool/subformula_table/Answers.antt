@@ -1,5 +1,5 @@
 use Rattle.std.proofs.Common.{◌≡◌, ◌+◌, ◌-◌, ◌<◌, ℕ, length, subst, arith}
-use Rattle.lw_pool.proofs.Marking.{AreMarksFrom, marks_step, marks_done}
+use Rattle.lw_pool.proofs.SubformulaMarks.{AreMarksFrom, marks_step, marks_done}
 use Rattle.lw_pool.proofs.pool.Pool.subformula_table.Goals as goal
 
 pub loop-at-preserved : goal.loop-at-preserved

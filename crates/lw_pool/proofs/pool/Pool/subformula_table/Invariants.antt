@@ -1,4 +1,4 @@
-use Rattle.lw_pool.proofs.Marking.{AreMarksFrom}
+use Rattle.lw_pool.proofs.SubformulaMarks.{AreMarksFrom}
 use Rattle.lw_pool.proofs.pool.Pool.subformula_table.Given as goal
 
 abbrev pub invariant-loop-at : goal.invariant-loop-at

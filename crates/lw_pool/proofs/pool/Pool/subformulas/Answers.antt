@@ -1,7 +1,7 @@
 use Rattle.std.proofs.Common.{subst, sym, ◌∙◌}
 use Rattle.std.proofs.lemmas.Result.{IfOk-weaker}
 use Rattle.lw_pool.specs.Region.{AreMarks}
-use Rattle.lw_pool.proofs.Collecting.{collected_from}
+use Rattle.lw_pool.proofs.MarkedIds.{collected_from}
 use Rattle.lw_pool.proofs.pool.Pool.subformulas.Goals as goal
 
 pub returns-clause-ids : goal.returns-clause-ids

@@ -1,10 +1,10 @@
 use Rattle.std.proofs.Common.{◌<◌, false, length, subst, sym, ◌∙◌, arith}
 use Rattle.std.proofs.lemmas.List.{get_or_default}
 use Rattle.lw_formula.specs.Variables.{replace}
-use Rattle.lw_formula.proofs.Subformulas.{IsSubformula-refl}
+use Rattle.lw_formula.proofs.SubformulaLists.{IsSubformula-refl}
 use Rattle.lw_pool.specs.Region.{tree_at}
-use Rattle.lw_pool.specs.Walk.{AreOperandsDone}
-use Rattle.lw_pool.proofs.Replacing.{IsReplaced, replaced_ready}
+use Rattle.lw_pool.specs.Private.IdWalk.{AreOperandsDone}
+use Rattle.lw_pool.proofs.SubstitutedOperands.{IsReplaced, replaced_ready}
 use Rattle.lw_pool.proofs.pool.Pool.substitute.Goals as goal
 
 pub replaced-requires-clause-operands : goal.replaced-requires-clause-operands

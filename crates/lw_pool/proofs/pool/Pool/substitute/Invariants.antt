@@ -1,4 +1,4 @@
-use Rattle.lw_pool.proofs.Replacing.{IsReplaced}
+use Rattle.lw_pool.proofs.SubstitutedOperands.{IsReplaced}
 use Rattle.lw_pool.proofs.pool.Pool.substitute.Given as goal
 
 abbrev pub invariant-loop-at : goal.invariant-loop-at

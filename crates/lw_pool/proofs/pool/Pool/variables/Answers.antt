@@ -1,6 +1,6 @@
 use Rattle.std.proofs.Common.{◌≡◌, ◌<◌, length, get_or, refl, arith}
 use Rattle.std.proofs.lemmas.List.Elements.{Contains-get_or}
-use Rattle.lw_pool.proofs.Naming.{names_step, names_done}
+use Rattle.lw_pool.proofs.VariablesMet.{names_step, names_done}
 use Rattle.lw_pool.proofs.pool.Pool.variables.Goals as goal
 
 pub node-requires : goal.node-requires

@@ -1,5 +1,5 @@
 use Rattle.lw_pool.specs.Region.{AreSubformulas}
-use Rattle.lw_pool.proofs.Naming.{AreNamesSoFar}
+use Rattle.lw_pool.proofs.VariablesMet.{AreNamesSoFar}
 use Rattle.lw_pool.proofs.pool.Pool.variables.Given as goal
 
 abbrev pub invariant-loop-part : goal.invariant-loop-part

@@ -1,6 +1,6 @@
 use Rattle.std.proofs.Common.{arith, ap}
 use Rattle.lw_proof.specs.Tree.{depth}
-use Rattle.lw_proof.proofs.Listing.{depth_more}
+use Rattle.lw_proof.proofs.ListedTrees.{depth_more}
 use Rattle.lw_proof.proofs.proof.Proof.+depth.Goals as goal
 
 pub loop-sub-preserved : goal.loop-sub-preserved

@@ -1,6 +1,6 @@
 use Rattle.std.proofs.Common.{arith, ap}
 use Rattle.lw_proof.specs.Tree.{lines}
-use Rattle.lw_proof.proofs.Listing.{lines_more}
+use Rattle.lw_proof.proofs.ListedTrees.{lines_more}
 use Rattle.lw_proof.proofs.proof.Proof.+lines.Goals as goal
 
 pub loop-sub-preserved : goal.loop-sub-preserved

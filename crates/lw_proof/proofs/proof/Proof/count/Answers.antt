@@ -1,5 +1,5 @@
 use Rattle.std.proofs.Common.{rules}
-use Rattle.lw_proof.proofs.Listing.{subs_seen}
+use Rattle.lw_proof.proofs.ListedTrees.{subs_seen}
 use Rattle.lw_proof.proofs.proof.Proof.count.Goals as goal
 
 pub returns : goal.returns

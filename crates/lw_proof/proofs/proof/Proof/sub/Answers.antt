@@ -1,8 +1,8 @@
 use Rattle.std.proofs.Common.{rules}
 use Rattle.lw_pool.specs.declared.id.SignedId.{SignedId}
 use Rattle.lw_pool.specs.Region.{IsLive}
-use Rattle.lw_proof.proofs.Listing.{sub_below, sub_is}
-use Rattle.lw_proof.proofs.Subproofs.{sub_smaller, each_sub}
+use Rattle.lw_proof.proofs.ListedTrees.{sub_below, sub_is}
+use Rattle.lw_proof.proofs.FirstSubproofs.{sub_smaller, each_sub}
 use Rattle.lw_proof.proofs.proof.Proof.sub.Goals as goal
 
 pub index-requires : goal.index-requires

@@ -1,6 +1,6 @@
 use Rattle.std.proofs.Common.{◌+◌, ◌-◌, ◌/◌, false, arith}
-use Rattle.lw_rows.proofs.Bits.{puts_false}
-use Rattle.lw_rows.proofs.Stored.{last_fits, last_place, seen_put, seen_is_region}
+use Rattle.lw_rows.proofs.WordBits.{puts_false}
+use Rattle.lw_rows.proofs.StoredRows.{last_fits, last_place, seen_put, seen_is_region}
 use Rattle.lw_rows.proofs.rows.Rows.clear.Goals as goal
 
 pub overflow_sub-place : goal.overflow_sub-place

@@ -1,4 +1,4 @@
-use Rattle.lw_rows.proofs.Stored.{seen_count, seen_region}
+use Rattle.lw_rows.proofs.StoredRows.{seen_count, seen_region}
 use Rattle.lw_rows.proofs.rows.Rows.count.Goals as goal
 
 pub returns-clause-count : goal.returns-clause-count

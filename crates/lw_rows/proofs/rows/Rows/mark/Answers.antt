@@ -1,4 +1,4 @@
-use Rattle.lw_rows.proofs.Stored.{seen_count}
+use Rattle.lw_rows.proofs.StoredRows.{seen_count}
 use Rattle.lw_rows.proofs.rows.Rows.mark.Goals as goal
 
 pub returns : goal.returns

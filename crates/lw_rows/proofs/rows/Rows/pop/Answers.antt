@@ -1,5 +1,5 @@
 use Rattle.std.proofs.Common.{◌≡◌, ◌-◌, ◌+◌, ℕ, arith, length, take, ap₂, ◌∙◌}
-use Rattle.lw_rows.proofs.Stored.{seen_count}
+use Rattle.lw_rows.proofs.StoredRows.{seen_count}
 use Rattle.lw_rows.proofs.rows.Rows.pop.Goals as goal
 
 pub release-requires : goal.release-requires

@@ -1,6 +1,6 @@
 use Rattle.std.proofs.Common.{◌≤◌, sym, ◌∙◌, rules}
-use Rattle.lw_rows.proofs.Places.{row_of-again}
-use Rattle.lw_rows.proofs.Stored.{seen_push, seen_last, seen_is_region}
+use Rattle.lw_rows.proofs.RowPlaces.{row_of-again}
+use Rattle.lw_rows.proofs.StoredRows.{seen_push, seen_last, seen_is_region}
 use Rattle.lw_rows.proofs.rows.Rows.push_copy.Goals as goal
 
 pub returns-clause-pushed : goal.returns-clause-pushed

@@ -1,7 +1,7 @@
 use Rattle.std.proofs.Common.{ap, ◌∙◌}
-use Rattle.lw_rows.specs.Region.{Region, empty_row}
-use Rattle.lw_rows.proofs.Places.{row_of-zeros}
-use Rattle.lw_rows.proofs.Stored.{seen_push, seen_is_region}
+use Rattle.lw_rows.specs.RowStack.{Region, empty_row}
+use Rattle.lw_rows.proofs.RowPlaces.{row_of-zeros}
+use Rattle.lw_rows.proofs.StoredRows.{seen_push, seen_is_region}
 use Rattle.lw_rows.proofs.rows.Rows.push_empty.Goals as goal
 
 pub returns-clause-pushed : goal.returns-clause-pushed

@@ -1,7 +1,7 @@
 use Rattle.std.proofs.Common.{◌≡◌, ◌+◌, ◌-◌, ◌*◌, ◌≤◌, ℕ, arith, length, take, ap, ◌∙◌}
 use Rattle.std.proofs.lemmas.Nat.{mul-le}
-use Rattle.lw_rows.proofs.Places.{length-cut, cut_frees}
-use Rattle.lw_rows.proofs.Stored.{seen_count, seen_take, seen_is_region}
+use Rattle.lw_rows.proofs.RowPlaces.{length-cut, cut_frees}
+use Rattle.lw_rows.proofs.StoredRows.{seen_count, seen_take, seen_is_region}
 use Rattle.lw_rows.proofs.rows.Rows.release.Goals as goal
 
 pub overflow_mul-mark-inside : goal.overflow_mul-mark-inside

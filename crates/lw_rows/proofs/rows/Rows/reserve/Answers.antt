@@ -1,4 +1,4 @@
-use Rattle.lw_rows.proofs.Stored.{seen_region, seen_is_region}
+use Rattle.lw_rows.proofs.StoredRows.{seen_region, seen_is_region}
 use Rattle.lw_rows.proofs.rows.Rows.reserve.Goals as goal
 
 pub returns-then-n-self-clause-region : goal.returns-then-n-self-clause-region

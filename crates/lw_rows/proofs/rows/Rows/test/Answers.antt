@@ -1,6 +1,6 @@
 use Rattle.std.proofs.Common.{◌%◌, ◌∙◌, arith}
-use Rattle.lw_rows.proofs.Bits.{reads_bit}
-use Rattle.lw_rows.proofs.Stored.{seen_place, seen_bit}
+use Rattle.lw_rows.proofs.WordBits.{reads_bit}
+use Rattle.lw_rows.proofs.StoredRows.{seen_place, seen_bit}
 use Rattle.lw_rows.proofs.rows.Rows.test.Goals as goal
 
 pub overflow_mul-row : goal.overflow_mul-row

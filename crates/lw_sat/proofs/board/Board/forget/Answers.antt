@@ -1,6 +1,6 @@
 use Rattle.std.proofs.Common.{◌∙◌, ap}
 use Rattle.lw_sat.specs.Sets.{sets}
-use Rattle.lw_sat.proofs.Boards.{becomes_kept, kept_top, unchanged}
+use Rattle.lw_sat.proofs.BoardSpots.{becomes_kept, kept_top, unchanged}
 use Rattle.lw_sat.proofs.board.Board.forget.Goals as goal
 
 pub returns : goal.returns

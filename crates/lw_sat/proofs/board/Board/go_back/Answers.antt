@@ -1,6 +1,6 @@
 use Rattle.std.proofs.Common.{◌*◌, ◌∙◌, sym, refl, ap}
-use Rattle.lw_sat.proofs.Listing.{after_pop}
-use Rattle.lw_sat.proofs.Boards.{same_spot}
+use Rattle.lw_sat.proofs.RowsAsSets.{after_pop}
+use Rattle.lw_sat.proofs.BoardSpots.{same_spot}
 use Rattle.lw_sat.proofs.board.Board.go_back.Goals as goal
 
 pub returns : goal.returns

@@ -1,7 +1,7 @@
 use Rattle.std.proofs.Common.{◌∙◌, ap}
 use Rattle.std.proofs.Common.{◌++◌, ◌∷◌, []}
 use Rattle.lw_sat.specs.Sets.{sets, top}
-use Rattle.lw_sat.proofs.Boards.{becomes_kept, pushed_full, unchanged}
+use Rattle.lw_sat.proofs.BoardSpots.{becomes_kept, pushed_full, unchanged}
 use Rattle.lw_sat.proofs.board.Board.keep.Goals as goal
 
 pub returns : goal.returns

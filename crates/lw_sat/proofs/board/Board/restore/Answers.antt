@@ -1,6 +1,6 @@
 use Rattle.std.proofs.Common.{◌∙◌, ap}
 use Rattle.lw_sat.specs.Sets.{sets, top}
-use Rattle.lw_sat.proofs.Boards.{becomes_kept, kept_top, refilled}
+use Rattle.lw_sat.proofs.BoardSpots.{becomes_kept, kept_top, refilled}
 use Rattle.lw_sat.proofs.board.Board.restore.Goals as goal
 
 pub returns : goal.returns

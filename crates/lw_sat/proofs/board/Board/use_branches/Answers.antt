@@ -1,7 +1,7 @@
 use Rattle.std.proofs.Common.{◌∙◌, ap}
 use Rattle.lw_sat.specs.Sets.{sets, adding}
 use Rattle.lw_sat.specs.Moves.{listed, needed}
-use Rattle.lw_sat.proofs.Boards.{becomes_kept, kept_top, branches_poured, becomes_more}
+use Rattle.lw_sat.proofs.BoardSpots.{becomes_kept, kept_top, branches_poured, becomes_more}
 use Rattle.lw_sat.proofs.board.Board.use_branches.Goals as goal
 
 pub returns : goal.returns

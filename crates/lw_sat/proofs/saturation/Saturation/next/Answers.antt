@@ -1,8 +1,8 @@
 use Rattle.std.proofs.Common.{refl, sym, subst, ◌∙◌}
 use Rattle.lw_sat.specs.Course.{RunFits, StateFits}
-use Rattle.lw_sat.specs.Path.{root, spot_of}
-use Rattle.lw_sat.proofs.Leading.{chain_within}
-use Rattle.lw_sat.proofs.Unwinding.{seed_closed}
+use Rattle.lw_sat.specs.SeedPath.{root, spot_of}
+use Rattle.lw_sat.proofs.PathEnds.{chain_within}
+use Rattle.lw_sat.proofs.UnwoundFrames.{seed_closed}
 use Rattle.lw_sat.proofs.saturation.Saturation.next.Goals as goal
 
 pub returns-in-None-clause-found : goal.returns-in-None-clause-found

@@ -1,7 +1,7 @@
 use Rattle.std.proofs.Common.{sym, ap, subst, arith}
 use Rattle.lw_sat.specs.Course.{state_room, StateFits}
 use Rattle.lw_sat.specs.Saturated.{every, room}
-use Rattle.lw_sat.proofs.Coursing.{at_waiting, below_left, closing_label, fits_after, room_after, room_some, room_waiting}
+use Rattle.lw_sat.proofs.SaturationCourse.{at_waiting, below_left, closing_label, fits_after, room_after, room_some, room_waiting}
 use Rattle.lw_sat.proofs.saturation.Saturation.refuse.Goals as goal
 
 pub unwind-requires : goal.unwind-requires

@@ -1,10 +1,10 @@
 use Rattle.std.proofs.Common.{◌+◌, ◌*◌, None, sym, ap, subst, ◌∙◌, arith}
-use Rattle.lw_sat.specs.Path.{held_steps, most_steps}
+use Rattle.lw_sat.specs.SeedPath.{held_steps, most_steps}
 use Rattle.lw_sat.specs.Saturated.{every, IsAt}
 use Rattle.lw_sat.specs.Course.{label}
-use Rattle.lw_sat.proofs.Coursing.{at_waiting, cut_moves, room_some, room_waiting, steps_waiting}
-use Rattle.lw_sat.proofs.Leading.{most_steps-on}
-use Rattle.lw_sat.proofs.Rounding.{branched, branched_room}
+use Rattle.lw_sat.proofs.SaturationCourse.{at_waiting, cut_moves, room_some, room_waiting, steps_waiting}
+use Rattle.lw_sat.proofs.PathEnds.{most_steps-on}
+use Rattle.lw_sat.proofs.OneRound.{branched, branched_room}
 use Rattle.lw_sat.proofs.saturation.Saturation.split.Goals as goal
 
 pub returns-in_err-frame-clause-work : goal.returns-in_err-frame-clause-work

@@ -1,7 +1,7 @@
 use Rattle.std.proofs.Common.{sym, subst, arith}
 use Rattle.lw_sat.specs.Saturated.{IsAt}
 use Rattle.lw_sat.specs.Sets.{among}
-use Rattle.lw_sat.proofs.Coursing.{seed_added, seed_at}
+use Rattle.lw_sat.proofs.SaturationCourse.{seed_added, seed_at}
 use Rattle.lw_sat.proofs.saturation.Saturation.start.Goals as goal
 
 pub loop-item-preserved : goal.loop-item-preserved

@@ -1,6 +1,6 @@
 use Rattle.std.proofs.Common.{◌≡◌, ◌≤◌, take}
 use Rattle.lw_closure.specs.Table.{item_count}
-use Rattle.lw_sat.specs.Path.{root, spot_of, IsBoard}
+use Rattle.lw_sat.specs.SeedPath.{root, spot_of, IsBoard}
 use Rattle.lw_sat.specs.Sets.{among}
 use Rattle.lw_sat.proofs.saturation.Saturation.start.Given as goal
 

@@ -1,5 +1,5 @@
 use Rattle.std.proofs.Common.{◌∷◌, [], refl, arith}
-use Rattle.lw_sat.proofs.Coursing.{seed_added}
+use Rattle.lw_sat.proofs.SaturationCourse.{seed_added}
 use Rattle.lw_search.proofs.tableau.Tableau.begin.Goals as goal
 
 pub returns : goal.returns

@@ -1,6 +1,6 @@
 use Rattle.std.proofs.Common.{refl}
-use Rattle.lw_search.proofs.Falling.{reopens_or_closes, step_closes}
-use Rattle.lw_search.proofs.Running.{closing_every}
+use Rattle.lw_search.proofs.ClosedSeeds.{reopens_or_closes, step_closes}
+use Rattle.lw_search.proofs.LabelsUnderWork.{closing_every}
 use Rattle.lw_search.proofs.tableau.Tableau.close_label.Goals as goal
 
 pub use_step-requires-clause-board : goal.use_step-requires-clause-board

@@ -1,7 +1,7 @@
 use Rattle.std.proofs.Common.{◌++◌, ◌∷◌, [], ap, refl, ◌∙◌}
-use Rattle.lw_sat.specs.Path.{spot_of}
+use Rattle.lw_sat.specs.SeedPath.{spot_of}
 use Rattle.lw_search.specs.declared.level.Level.{Level}
-use Rattle.lw_search.proofs.Working.{descended, label_items}
+use Rattle.lw_search.proofs.NextStates.{descended, label_items}
 use Rattle.lw_search.proofs.tableau.Tableau.descend.Goals as goal
 
 pub plant-requires-clause-items : goal.plant-requires-clause-items

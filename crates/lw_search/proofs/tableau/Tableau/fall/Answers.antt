@@ -1,6 +1,6 @@
 use Rattle.std.proofs.Common.{Some, None, refl, arith}
 use Rattle.std.proofs.lemmas.List.{nil_from_length}
-use Rattle.lw_search.proofs.Falling.{all_fallen, goes_on, step_closed}
+use Rattle.lw_search.proofs.ClosedSeeds.{all_fallen, goes_on, step_closed}
 use Rattle.lw_search.proofs.tableau.Tableau.fall.Goals as goal
 
 pub close_label-requires-clause-closes : goal.close_label-requires-clause-closes

@@ -1,6 +1,6 @@
 use Rattle.std.proofs.Common.{Some, length}
-use Rattle.lw_search.specs.Levels.{Aim, IsFallen}
-use Rattle.lw_search.proofs.Falling.{FallGoesOn}
+use Rattle.lw_search.specs.Private.SearchLevels.{Aim, IsFallen}
+use Rattle.lw_search.proofs.ClosedSeeds.{FallGoesOn}
 use Rattle.lw_search.proofs.tableau.Tableau.fall.Given as goal
 
 abbrev pub invariant-loop-level : goal.invariant-loop-level

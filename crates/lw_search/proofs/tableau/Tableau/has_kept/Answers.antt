@@ -1,9 +1,9 @@
 use Rattle.std.proofs.Common.{◌≡◌, ℕ, true, refl, sym, subst, ◌∙◌, inl, inr, arith}
 use Rattle.std.proofs.lemmas.Bool.{both_ways, cases_eq, false≢true}
-use Rattle.lw_proof.proofs.Larger.{IsWithin}
+use Rattle.lw_proof.specs.System.{IsWithin}
 use Rattle.lw_sat.specs.Sets.{among, top}
 use Rattle.lw_search.specs.Step.{kept_of}
-use Rattle.lw_search.proofs.Keeping.{each_kept, kept_some}
+use Rattle.lw_search.proofs.KeptItems.{each_kept, kept_some}
 use Rattle.lw_search.proofs.tableau.Tableau.has_kept.Goals as goal
 use Rattle.lw_search.proofs.tableau.Tableau.has_kept.Goals.{else-has-via-then-has+else-not-has_kept_of, else-has-via-else-has}
 

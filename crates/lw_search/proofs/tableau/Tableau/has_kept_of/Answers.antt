@@ -1,6 +1,6 @@
 use Rattle.std.proofs.Common.{refl, rules}
 use Rattle.lw_sat.specs.Sets.{among}
-use Rattle.lw_search.proofs.Keeping.{within_none, within_nu}
+use Rattle.lw_search.proofs.KeptItems.{within_none, within_nu}
 use Rattle.lw_search.proofs.tableau.Tableau.has_kept_of.Goals as goal
 
 pub returns-then-has_if : goal.returns-then-has_if

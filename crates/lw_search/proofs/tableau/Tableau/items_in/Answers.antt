@@ -3,7 +3,7 @@ use Rattle.std.specs.List.{All}
 use Rattle.std.proofs.lemmas.List.Elements.{All-push}
 use Rattle.lw_closure.specs.Table.{item_count}
 use Rattle.lw_sat.specs.Sets.{among, top}
-use Rattle.lw_search.proofs.Planting.{listed_all, listed_more, listed_skip}
+use Rattle.lw_search.proofs.LabelsByItem.{listed_all, listed_more, listed_skip}
 use Rattle.lw_search.proofs.tableau.Tableau.items_in.Goals as goal
 use Rattle.lw_search.proofs.tableau.Tableau.items_in.Goals.{then-has+in_ok-push, else-has}
 

@@ -2,7 +2,7 @@ use Rattle.std.proofs.Common.{◌≡◌, ◌<◌}
 use Rattle.std.specs.List.{All}
 use Rattle.lw_closure.specs.Table.{item_count}
 use Rattle.lw_sat.specs.Sets.{among, top}
-use Rattle.lw_search.proofs.Planting.{below}
+use Rattle.lw_search.proofs.LabelsByItem.{below}
 use Rattle.lw_search.proofs.tableau.Tableau.items_in.Given as goal
 
 abbrev pub invariant-loop-item : goal.invariant-loop-item

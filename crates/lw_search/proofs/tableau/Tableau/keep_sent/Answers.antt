@@ -2,11 +2,11 @@ use Rattle.std.proofs.Common.{ℕ, ◌+◌, Bool, ◌||◌, eqb, ap, sym, refl, 
 use Rattle.std.proofs.lemmas.Bool.{eq-eqb, ne_eqb, or_from, or_left, or_right}
 use Rattle.lw_proof.specs.System.{Set}
 use Rattle.lw_sat.specs.declared.board.Board.{Board}
-use Rattle.lw_sat.specs.Path.{spot_of, Becomes}
+use Rattle.lw_sat.specs.SeedPath.{spot_of, Becomes}
 use Rattle.lw_sat.specs.Sets.{top}
 use Rattle.lw_search.specs.Step.{kept_of}
-use Rattle.lw_search.specs.Used.{meets}
-use Rattle.lw_search.proofs.Planting.{cleared, cleared_all, cleared_none, passes_on, taken_out}
+use Rattle.lw_search.specs.Private.StepUse.{meets}
+use Rattle.lw_search.proofs.LabelsByItem.{cleared, cleared_all, cleared_none, passes_on, taken_out}
 use Rattle.lw_search.proofs.tableau.Tableau.keep_sent.Goals as goal
 use Rattle.lw_search.proofs.tableau.Tableau.keep_sent.Goals.{then-other-item+then-not-sends, else-other-item, else-other-item-via-then-other-item+else-not-sends, else-other-item-via-else-other-item}
 

@@ -4,10 +4,10 @@ use Rattle.lw_formula.specs.declared.parts.Parts.TheVariants.{Pi}
 use Rattle.lw_proof.specs.Derivation.{added}
 use Rattle.lw_closure.specs.Items.{items}
 use Rattle.lw_closure.specs.Table.{entry_at, item_count}
-use Rattle.lw_sat.specs.Path.{spot_of, Becomes}
+use Rattle.lw_sat.specs.SeedPath.{spot_of, Becomes}
 use Rattle.lw_sat.specs.Sets.{top, without, AreBelow}
-use Rattle.lw_search.proofs.Planting.{left_both}
-use Rattle.lw_search.proofs.Stepping.{added_below, inner_below}
+use Rattle.lw_search.proofs.LabelsByItem.{left_both}
+use Rattle.lw_search.proofs.StepSeeds.{added_below, inner_below}
 use Rattle.lw_search.proofs.tableau.Tableau.leave_added.Goals as goal
 
 pub remove-requires-in-Some-clause-inside : goal.remove-requires-in-Some-clause-inside

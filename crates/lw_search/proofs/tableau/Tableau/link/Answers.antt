@@ -1,5 +1,5 @@
 use Rattle.std.proofs.Common.{refl}
-use Rattle.lw_search.proofs.Working.{label_items, linked_serving, linked_witness}
+use Rattle.lw_search.proofs.NextStates.{label_items, linked_serving, linked_witness}
 use Rattle.lw_search.proofs.tableau.Tableau.link.Goals as goal
 
 pub target-requires-clause-own : goal.target-requires-clause-own

@@ -3,11 +3,11 @@ use Rattle.lw_proof.specs.Derivation.{added}
 use Rattle.lw_closure.specs.Items.{items}
 use Rattle.lw_closure.specs.Table.{item_count}
 use Rattle.lw_sat.specs.Moves.{listed}
-use Rattle.lw_sat.specs.Path.{spot_of, IsBoard, IsWide}
+use Rattle.lw_sat.specs.SeedPath.{spot_of, IsBoard, IsWide}
 use Rattle.lw_sat.specs.Sets.{top, AreBelow}
-use Rattle.lw_sat.proofs.Finding.{below_more}
-use Rattle.lw_search.proofs.Planting.{kept_more, kept_skip, planted, planted_room}
-use Rattle.lw_search.proofs.Stepping.{added_below}
+use Rattle.lw_sat.proofs.ItemDemands.{below_more}
+use Rattle.lw_search.proofs.LabelsByItem.{kept_more, kept_skip, planted, planted_room}
+use Rattle.lw_search.proofs.StepSeeds.{added_below}
 use Rattle.lw_search.specs.Step.{seed}
 use Rattle.lw_search.proofs.tableau.Tableau.plant.Goals as goal
 use Rattle.lw_search.proofs.tableau.Tableau.plant.Goals.{then-has, else-has}

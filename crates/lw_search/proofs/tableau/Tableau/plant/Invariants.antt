@@ -1,8 +1,8 @@
 use Rattle.std.proofs.Common.{◌≡◌, ◌+◌, ◌≤◌}
 use Rattle.lw_closure.specs.Table.{item_count}
-use Rattle.lw_sat.specs.Path.{root, spot_of, IsBoard, IsWide}
+use Rattle.lw_sat.specs.SeedPath.{root, spot_of, IsBoard, IsWide}
 use Rattle.lw_sat.specs.Sets.{top}
-use Rattle.lw_search.proofs.Planting.{kept_below}
+use Rattle.lw_search.proofs.LabelsByItem.{kept_below}
 use Rattle.lw_search.proofs.tableau.Tableau.plant.Given as goal
 
 abbrev pub invariant-loop-kept : goal.invariant-loop-kept

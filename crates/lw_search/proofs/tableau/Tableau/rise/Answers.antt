@@ -1,7 +1,7 @@
 use Rattle.std.proofs.Common.{◌≡◌, ◌+◌, length, ap, refl, ◌∙◌, arith}
 use Rattle.std.proofs.lemmas.List.{length_push, nil_from_length}
 use Rattle.lw_search.specs.declared.level.Search.{Search}
-use Rattle.lw_search.proofs.Working.{explored, item_below, risen}
+use Rattle.lw_search.proofs.NextStates.{explored, item_below, risen}
 use Rattle.lw_search.proofs.tableau.Tableau.rise.Goals as goal
 
 pub serve-requires : goal.serve-requires

@@ -1,5 +1,5 @@
 use Rattle.std.proofs.Common.{◌≤◌, length}
-use Rattle.lw_search.specs.Levels.{Aim, IsServing, serving_room}
+use Rattle.lw_search.specs.Private.SearchLevels.{Aim, IsServing, serving_room}
 use Rattle.lw_search.proofs.tableau.Tableau.rise.Given as goal
 
 abbrev pub invariant-loop-search : goal.invariant-loop-search

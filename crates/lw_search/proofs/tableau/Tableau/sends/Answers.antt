@@ -1,6 +1,6 @@
 use Rattle.std.proofs.Common.{rules, sym}
 use Rattle.lw_sat.specs.Sets.{top}
-use Rattle.lw_search.proofs.Keeping.{meets_none, meets_nu}
+use Rattle.lw_search.proofs.KeptItems.{meets_none, meets_nu}
 use Rattle.lw_search.proofs.tableau.Tableau.sends.Goals as goal
 
 pub returns-then-has : goal.returns-then-has

@@ -1,6 +1,6 @@
 use Rattle.std.proofs.Common.{◌≡◌, ◌-◌, ◌≤◌}
 use Rattle.lw_closure.specs.Table.{item_count}
-use Rattle.lw_search.specs.Levels.{Aim, IsServing, serving_room}
+use Rattle.lw_search.specs.Private.SearchLevels.{Aim, IsServing, serving_room}
 use Rattle.lw_search.proofs.tableau.Tableau.serve.Given as goal
 
 abbrev pub invariant-loop-search : goal.invariant-loop-search

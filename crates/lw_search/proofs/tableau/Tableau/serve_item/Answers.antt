@@ -3,8 +3,8 @@ use Rattle.lw_formula.specs.declared.parts.Parts.TheVariants.{Pi}
 use Rattle.lw_closure.specs.Table.{entry_at}
 use Rattle.lw_search.specs.declared.level.Search.{Search}
 use Rattle.lw_search.specs.declared.level.Served.TheVariants.{Done}
-use Rattle.lw_search.specs.Turns.{StepFits}
-use Rattle.lw_search.proofs.Working.{item_done, itself_witness}
+use Rattle.lw_search.specs.Private.SearchTurns.{StepFits}
+use Rattle.lw_search.proofs.NextStates.{item_done, itself_witness}
 use Rattle.lw_search.proofs.tableau.Tableau.serve_item.Goals as goal
 use Rattle.lw_search.proofs.tableau.Tableau.serve_item.Goals.{in-Some+in_ok-link+else-not-branch, in_default}
 

@@ -1,7 +1,7 @@
 use Rattle.std.proofs.Common.{ℕ, length, sym, ap, subst, ◌∙◌}
 use Rattle.lw_counter.specs.Fragment.{Fragment, with_world}
-use Rattle.lw_search.specs.Levels.{IsServing}
-use Rattle.lw_search.proofs.Working.{label_items, settled_room, settled_serving}
+use Rattle.lw_search.specs.Private.SearchLevels.{IsServing}
+use Rattle.lw_search.proofs.NextStates.{label_items, settled_room, settled_serving}
 use Rattle.lw_search.proofs.tableau.Tableau.settle.Goals as goal
 
 pub items_in-requires-clause-own : goal.items_in-requires-clause-own

@@ -1,7 +1,7 @@
 use Rattle.std.proofs.Common.{◌&&◌, ◌||◌, ap, eqb, refl, sym, ◌∙◌}
 use Rattle.lw_search.specs.Step.{keeps_inside, keeps_nu, kept_of}
-use Rattle.lw_search.proofs.Keeping.{kept_none, kept_nu}
-use Rattle.lw_search.proofs.Planting.{added_both}
+use Rattle.lw_search.proofs.KeptItems.{kept_none, kept_nu}
+use Rattle.lw_search.proofs.LabelsByItem.{added_both}
 use Rattle.lw_search.proofs.tableau.Tableau.take_along.Goals as goal
 
 pub returns-in-Nu : goal.returns-in-Nu

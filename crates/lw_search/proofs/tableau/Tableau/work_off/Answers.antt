@@ -1,5 +1,5 @@
 use Rattle.std.proofs.Common.{refl}
-use Rattle.lw_search.proofs.Running.{at_every, worked}
+use Rattle.lw_search.proofs.LabelsUnderWork.{at_every, worked}
 use Rattle.lw_search.proofs.tableau.Tableau.work_off.Goals as goal
 
 pub run-requires : goal.run-requires

@@ -1,0 +1,4 @@
+-- Words that private contracts and proofs alone use.
+pub mod AnswerSteps
+pub mod CheckSteps
+pub mod AnswerCertificate

@@ -1,0 +1,5 @@
+-- Words that private contracts and proofs alone use.
+pub mod FormulaMachine
+pub mod ReaderViews
+pub mod TextMeasures
+pub mod PrinterPieces

@@ -1,0 +1,90 @@
+-- The machine that reads formulas token by token. Only private contracts speak of it: that it does what the grammar
+-- says is proved.
+use Rattle.std.specs.Prelude.{ℕ, nat_lt, if◌then◌else◌, List, [], ◌∷◌, length}
+use Rattle.lw_formula.specs.Formula.{Formula, letter, falsum, verum}
+use Rattle.lw_read.specs.declared.lexeme.Prefix.{Prefix}
+use Rattle.lw_formula.specs.declared.joint.Joint.{Joint}
+use Rattle.lw_read.specs.Lexemes.{Lexeme, Variable, Truth, Falsity, Before, Between, Open, Close, End}
+use Rattle.lw_formula.specs.Joint.{join}
+use Rattle.lw_read.specs.Grammar.{rank, apply}
+
+-- a construct that waits for its end: a prefix for its operand, a connective with its left operand for the right one,
+-- an open bracket for the closing one
+pub data Frame : Type 0 where
+  Awaiting : (sign : Prefix) → Frame
+  Left : (sign : Joint) (a : Formula) → Frame
+  Bracket : Frame
+
+-- an operand is needed, or one is there, before the unfinished constructs, the innermost first; the text is over; or
+-- no text goes on so
+pub data State : Type 0 where
+  Need : (frames : List Frame) → State
+  Have : (a : Formula) (frames : List Frame) → State
+  Over : (a : Formula) → State
+  Astray : State
+
+-- the level of the expression that a construct ends as; a bracket ends by its closing one alone
+abbrev pub frame_rank : Frame → ℕ
+frame_rank (Awaiting sign) = 5
+frame_rank (Left sign a) = rank sign
+frame_rank Bracket = 0
+
+-- a construct with its last operand
+abbrev pub finish : Frame → Formula → Formula
+finish (Awaiting sign) b = apply sign b
+finish (Left sign a) b = join sign a b
+finish Bracket b = b
+
+-- ends the constructs that bind tighter than a level, then goes on
+abbrev pub reduce : (Formula → List Frame → State) → ℕ → Formula → List Frame → State
+reduce go level a [] = go a []
+reduce go level a (f ∷ fs) = if nat_lt level (frame_rank f) then reduce go level (finish f a) fs else go a (f ∷ fs)
+
+-- a connective takes what is there as its left operand
+abbrev pub take_left : Joint → Formula → List Frame → State
+take_left sign a fs = Need (Left sign a ∷ fs)
+
+-- a closing bracket ends the innermost open one
+abbrev pub close : Formula → List Frame → State
+close a (Bracket ∷ fs) = Have a fs
+close a _ = Astray
+
+-- the end of the text leaves nothing unfinished
+abbrev pub stop : Formula → List Frame → State
+stop a [] = Over a
+stop a _ = Astray
+
+-- where an operand is needed
+abbrev pub begin : Lexeme → List Frame → State
+begin (Variable x) fs = Have (letter x) fs
+begin Truth fs = Have verum fs
+begin Falsity fs = Have falsum fs
+begin (Before sign) fs = Need (Awaiting sign ∷ fs)
+begin Open fs = Need (Bracket ∷ fs)
+begin _ fs = Astray
+
+-- where an operand is there
+abbrev pub go_on : Lexeme → Formula → List Frame → State
+go_on (Between sign) a fs = reduce (take_left sign) (rank sign) a fs
+go_on Close a fs = reduce close 0 a fs
+go_on End a fs = reduce stop 0 a fs
+go_on _ a fs = Astray
+
+-- one token
+abbrev pub step : Lexeme → State → State
+step t (Need fs) = begin t fs
+step t (Have a fs) = go_on t a fs
+step t (Over a) = Astray
+step t Astray = Astray
+
+-- some tokens
+abbrev pub run : List Lexeme → State → State
+run [] s = s
+run (t ∷ ts) s = run ts (step t s)
+
+-- how many constructs are unfinished
+abbrev pub height : State → ℕ
+height (Need fs) = length fs
+height (Have a fs) = length fs
+height (Over a) = 0
+height Astray = 0

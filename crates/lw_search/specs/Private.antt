@@ -1,0 +1,7 @@
+-- Words that private contracts and proofs alone use.
+pub mod LabelLack
+pub mod StepUse
+pub mod SearchWorlds
+pub mod SearchLevels
+pub mod SearchTurns
+pub mod SearchTableau
