@@ -1,8 +1,10 @@
 ghost use Rattle.std.specs.Prelude.{◌≡◌, IfOk, IfErr, OnOk, min, length, Contains};
 ghost use Rattle.lw_formula.specs.Formula.{depth, letter};
-ghost use Rattle.lw_formula.specs.Variables.{replace, AreVariables, AreInByteOrder, AddsVariables, IsGapFor};
+ghost use Rattle.lw_formula.specs.Joint.{joint_of};
+ghost use Rattle.lw_formula.specs.Variables.{replace, HasNames, AreVariables, AreInByteOrder, AddsVariables, IsGapFor};
 ghost use Rattle.lw_formula.specs.Tree.{tree_of};
 
+use crate::joint::Joint;
 use crate::name::Name;
 use std::alloc::{AllocError, Global};
 
@@ -22,12 +24,32 @@ pub enum Form {
 }
 
 impl Form {
-    /// The greatest number of `Nec` and `Poss` above a leaf, or the greatest `usize` where there are more.
-    pub fn modal_depth(&self) -> usize
-        ensures { result ≡ min (depth (tree_of self.now)) usize.MAX }
+    /// The connective that stands between two operands, if the formula has such.
+    pub fn joint(&self) -> Option<Joint>
+        ensures { result ≡ joint_of (tree_of self.now) }
     {
         match self {
-            Form::Var(_) | Form::Bot | Form::Top => 0,
+            Form::And(_, _) => Some(Joint::And),
+            Form::Or(_, _) => Some(Joint::Or),
+            Form::Imp(_, _) => Some(Joint::Imp),
+            Form::Iff(_, _) => Some(Joint::Iff),
+            Form::Var(_) | Form::Bot | Form::Top | Form::Not(_) | Form::Nec(_) | Form::Poss(_) =>
+                None,
+        }
+    }
+
+    /// The greatest number of `Nec` and `Poss` above a leaf, or the greatest `usize` where there are more. The letters of
+    /// each formula are names, as its type says.
+    pub fn modal_depth(&self) -> usize
+        ensures depth { result ≡ min (depth (tree_of self.now)) usize.MAX }
+        ensures names { HasNames (tree_of self.now) }
+    {
+        match self {
+            Form::Var(name) => {
+                let _ = name.as_bytes();
+                0
+            }
+            Form::Bot | Form::Top => 0,
             Form::Not(a) => a.modal_depth(),
             Form::And(a, b) | Form::Or(a, b) | Form::Imp(a, b) | Form::Iff(a, b) => {
                 a.modal_depth().max(b.modal_depth())

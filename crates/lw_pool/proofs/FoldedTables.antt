@@ -1,38 +1,41 @@
--- A walk that makes the image of each subformula of a root, operands first, while the region grows.
-use Rattle.std.proofs.Common.{◌≡◌, ℕ, ◌<◌, ◌≤◌, List, [], ◌∷◌, ◌++◌, length, get_or, sym, subst, arith}
-use Rattle.std.proofs.lemmas.List.{get_or_default}
+-- A walk that makes what is right for each subformula of a root, operands first, while the region grows.
+use Rattle.std.proofs.Common.{◌≡◌, ℕ, ◌+◌, ◌<◌, List, [], ◌∷◌, ◌++◌, length, get_or, sym, ap, subst, ◌∙◌, arith, length-append}
 use Rattle.lw_formula.specs.Formula.{Formula, falsum, IsSubformula}
 use Rattle.lw_formula.proofs.SubformulaLists.{IsSubformula-trans}
 use Rattle.lw_pool.specs.declared.id.FormId.{FormId}
-use Rattle.lw_pool.specs.Region.{tree_at, IsAt, Grows}
-use Rattle.lw_pool.specs.Private.IdWalk.{AreOperandsDone}
+use Rattle.lw_pool.specs.Region.{tree_at, IsLive, Grows}
 use Rattle.lw_pool.proofs.SubformulasBelow.{operand_within}
-use Rattle.lw_pool.proofs.RegionGrowth.{IsAt-grows}
+use Rattle.lw_pool.proofs.RegionGrowth.{Grows-trans}
 use Rattle.lw_pool.proofs.WalkTables.{each_push}
+use Rattle.lw_pool.specs.Walk.{AreOperandsRight}
 
--- for each of its places with a subformula of the root the table has the id of the image
-abbrev pub AreDone : (Formula → Formula) → Formula → List Formula → List FormId → Type 0
-AreDone f root ts done =
-    (c : FormId) → c.0 < length done → IsSubformula (tree_at ts c) root →
-    IsAt ts (f (tree_at ts c)) (get_or done c.0 c)
+-- what the table has when the ids below i are done: at each place with a subformula of the root, what is right for it
+pub record IsFolded {X : Type 0} (M : List Formula → Formula → X → Type 0) (old : List Formula) (root : Formula) (i : ℕ) (ts : List Formula) (done : List X) : Type 0 where
+  pub long : length done ≡ i
+  pub grows : Grows old ts
+  pub right : (c : FormId) (d : X) → c.0 < length done → IsSubformula (tree_at ts c) root → M ts (tree_at ts c) (get_or done c.0 d)
 
--- the operands of a subformula have their images
-pub operands_done : (f : Formula → Formula) (root : Formula) (ts : List Formula) (done : List FormId) (a : FormId) → a.0 ≤ length done → IsSubformula (tree_at ts a) root →
-    AreDone f root ts done → AreOperandsDone f ts done a
-operands_done f root ts done a l s h c b o = h c (omega arith) (IsSubformula-trans (tree_at ts c) (tree_at ts a) root (operand_within (tree_at ts c) (tree_at ts a) o) s)
+-- the next one's operands are done
+pub fold_ready : {X : Type 0} (M : List Formula → Formula → X → Type 0) (old : List Formula) (root : Formula) (a : FormId) (ts : List Formula) (done : List X) →
+    IsFolded M old root a.0 ts done → IsSubformula (tree_at ts a) root → AreOperandsRight (M ts) ts done a
+fold_ready M old root a ts done h s c d l o =
+    h.right c d (omega (arith, h.long)) (IsSubformula-trans (tree_at ts c) (tree_at ts a) root (operand_within (tree_at ts c) (tree_at ts a) o) s)
 
--- the images stay while the region grows
-pub AreDone-grows : (f : Formula → Formula) (root : Formula) (old new : List Formula) (done : List FormId) → length done ≤ length old → Grows old new → AreDone f root old done → AreDone f root new done
-AreDone-grows f root old new done l g h c b s =
-    let e : tree_at new c ≡ tree_at old c = g.same c (omega arith) in
-    subst (λ (t : Formula). IsAt new (f t) (get_or done c.0 c)) (sym e)
-    (IsAt-grows old new (f (tree_at old c)) (get_or done c.0 c) g (h c b (subst (λ (t : Formula). IsSubformula t root) e s)))
-
--- one image more
-pub AreDone-push : (f : Formula → Formula) (root : Formula) (ts : List Formula) (done : List FormId) (a b : FormId) → a.0 ≡ length done → AreDone f root ts done →
-    (IsSubformula (tree_at ts a) root → IsAt ts (f (tree_at ts a)) b) → AreDone f root ts (done ++ b ∷ [])
-AreDone-push f root ts done a b e h new c l s =
-    each_push (λ (k : ℕ) (x : FormId). IsSubformula (get_or ts k falsum) root → IsAt ts (f (get_or ts k falsum)) x) done b
-    (λ k d m t. subst (λ (x : FormId). IsAt ts (f (get_or ts k falsum)) x) (get_or_default done k (record { 0 = k }) d m) (h (record { 0 = k }) m t))
-    (subst (λ (k : ℕ). IsSubformula (get_or ts k falsum) root → IsAt ts (f (get_or ts k falsum)) b) e new)
-    c.0 c l s
+-- one place more
+pub fold_push : {X : Type 0} (M : List Formula → Formula → X → Type 0) (old : List Formula) (root : Formula) (a : FormId) (ts us : List Formula) (done : List X) (b : X) →
+    IsFolded M old root a.0 ts done → IsLive ts a → Grows ts us → ((t : Formula) (x : X) → M ts t x → M us t x) →
+    (IsSubformula (tree_at ts a) root → M us (tree_at ts a) b) → IsFolded M old root (a.0 + 1) us (done ++ b ∷ [])
+fold_push {X} M old root a ts us done b h live g lasts new =
+    let here : get_or us (length done) falsum ≡ get_or ts a.0 falsum = ap (λ (j : ℕ). get_or us j falsum) h.long ∙ g.same a live in
+    record {
+      long = omega (arith, h.long, length-append done (b ∷ []));
+      grows = Grows-trans old ts us h.grows g;
+      right = λ c d l s.
+          each_push (λ (k : ℕ) (x : X). IsSubformula (get_or us k falsum) root → M us (get_or us k falsum) x) done b
+          (λ k e m t.
+          let same : get_or us k falsum ≡ get_or ts k falsum = g.same (record { 0 = k }) (omega (arith, h.long)) in
+          subst (λ (u : Formula). M us u (get_or done k e)) (sym same)
+          (lasts (get_or ts k falsum) (get_or done k e) (h.right (record { 0 = k }) e m (subst (λ (u : Formula). IsSubformula u root) same t))))
+          (λ t. subst (λ (u : Formula). M us u b) (sym here) (new (subst (λ (u : Formula). IsSubformula u root) here t)))
+          c.0 d l s;
+    }

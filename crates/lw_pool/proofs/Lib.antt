@@ -1,5 +1,6 @@
 pub mod NodeFormulas
 pub mod NodeChildren
+pub mod NodeNames
 pub mod NodeInsertion
 pub mod RegionGrowth
 pub mod WalkTables
@@ -9,4 +10,3 @@ pub mod EqualLengths
 pub mod MarkedIds
 pub mod VariablesMet
 pub mod FoldedTables
-pub mod SubstitutedOperands

@@ -15,9 +15,10 @@ use Rattle.lw_pool.specs.declared.node.Node.{Node}
 use Rattle.lw_pool.specs.declared.node.Node.TheVariants.{Var, Bot, Top, Not, And, Or, Imp, Iff, Nec, Poss}
 use Rattle.lw_pool.specs.contracts.node.NodePartialEq.TheImpl as derived
 use Rattle.lw_pool.specs.contracts.node.NodeEq.TheImpl.Laws as laws
-use Rattle.lw_pool.specs.Region.{IsAbsent, AreIdsExact, AreOperandsBelow, AreChildrenBelow, tree_of_node, IsMade}
-use Rattle.lw_pool.specs.Private.NodeRegion.{trees, IsRegion}
+use Rattle.lw_pool.specs.Region.{IsAbsent, AreIdsExact, AreNamed, AreOperandsBelow, AreChildrenBelow, tree_of_node, IsMade}
+use Rattle.lw_pool.specs.Private.NodeRegion.{trees, IsNamed, IsRegion}
 use Rattle.lw_pool.proofs.NodeFormulas.{length-trees, trees-push, trees_from-append, trees_from-front, tree_at_node, children_below, AreOrderedFrom-append, AreOrderedFrom-take, AreChildrenBelow-le}
+use Rattle.lw_pool.proofs.NodeNames.{node_names, names_push, names_take}
 use Rattle.lw_pool.proofs.NodeChildren.{child_of_operand, child_below}
 
 abbrev pub node_eq : Node → Node → Bool
@@ -124,17 +125,19 @@ found ns ts n i r e a =
     record { region = r; made = inl (l, e, sym (region_node ns ts i n r e l s).0) }
 
 -- the region goes on with a node whose formula it lacks
-pub region_push : (ns : List Node) (n : Node) → IsRegion ns → AreChildrenBelow (length ns) n → IsAbsent (trees ns) (tree_of_node (trees ns) n) → IsRegion (ns ++ n ∷ [])
-region_push ns n r b a = record {
+pub region_push : (ns : List Node) (n : Node) → IsRegion ns → AreChildrenBelow (length ns) n → IsAbsent (trees ns) (tree_of_node (trees ns) n) → IsNamed n → IsRegion (ns ++ n ∷ [])
+region_push ns n r b a is = record {
   ordered = AreOrderedFrom-append 0 ns (n ∷ []) r.ordered (subst (λ (k : ℕ). AreChildrenBelow k n) (omega arith) b, tt);
   distinct = subst AreDistinct (sym (trees-push ns n))
       (all_pairs_push (λ (x y : Formula). x ≢ y) (trees ns) (tree_of_node (trees ns) n) r.distinct
       (λ k d l e. a (k, l, get_or_default (trees ns) k (tree_of_node (trees ns) n) d l ∙ e)));
+  named = subst AreNamed (sym (trees-push ns n))
+      (names_push (trees ns) (tree_of_node (trees ns) n) r.named (node_names (trees ns) n r.named (subst (λ (k : ℕ). AreChildrenBelow k n) (sym (length-trees ns)) b) is));
 }
 
-appended : (ns : List Node) (ts : List Formula) (n : Node) (i : ℕ) → IsRegion ns → trees ns ≡ ts → AreChildrenBelow (length ts) n →
+appended : (ns : List Node) (ts : List Formula) (n : Node) (i : ℕ) → IsRegion ns → trees ns ≡ ts → AreChildrenBelow (length ts) n → IsNamed n →
     list_any (node_eq n) ns ≡ false → StandsAt n i (ns ++ n ∷ []) → IsInserted ts n i (ns ++ n ∷ [])
-appended ns ts n i r e b f a =
+appended ns ts n i r e b is f a =
     let same : length ts ≡ length ns = omega (arith, length-trees ns, ap length e) in
     let m : i < length ns + 1 = omega (arith, place_within i a.0 (ns ++ n ∷ []) a.1, length-append ns (n ∷ [])) in
     let late : i < length ns → ⊥ = λ l.
@@ -145,15 +148,15 @@ appended ns ts n i r e b f a =
     let absent : IsAbsent ts (tree_of_node ts n) = region_absent ns ts n r e b f in
     let absent' : IsAbsent (trees ns) (tree_of_node (trees ns) n) = subst (λ (us : List Formula). IsAbsent us (tree_of_node us n)) (sym e) absent in
     record {
-      region = region_push ns n r (subst (λ (k : ℕ). AreChildrenBelow k n) same b) absent';
+      region = region_push ns n r (subst (λ (k : ℕ). AreChildrenBelow k n) same b) absent' is;
       made = inr (at_end, trees-push ns n ∙ ap (λ (us : List Formula). us ++ tree_of_node us n ∷ []) e);
     }
 
-pub region_inserted : (ns : List Node) (ts : List Formula) (n : Node) (i : ℕ) → IsRegion ns → trees ns ≡ ts → AreChildrenBelow (length ts) n →
+pub region_inserted : (ns : List Node) (ts : List Formula) (n : Node) (i : ℕ) → IsRegion ns → trees ns ≡ ts → AreChildrenBelow (length ts) n → IsNamed n →
     (ms : List Node) → ms ≡ insert_key node_eq ns n → StandsAt n i ms → IsInserted ts n i ms
-region_inserted ns ts n i r e b ms k a =
+region_inserted ns ts n i r e b is ms k a =
     let P : List Node → Type 0 = λ us. StandsAt n i us → IsInserted ts n i us in
-    subst P (sym k) (cond_both (list_any (node_eq n) ns) ns (ns ++ n ∷ []) P (λ _. found ns ts n i r e) (λ f. appended ns ts n i r e b f)) a
+    subst P (sym k) (cond_both (list_any (node_eq n) ns) ns (ns ++ n ∷ []) P (λ _. found ns ts n i r e) (λ f. appended ns ts n i r e b is f)) a
 
 trees-take : (k : ℕ) (ns : List Node) → trees (take k ns) ≡ take k (trees ns)
 trees-take k ns = elim (cases_order k (length ns)) [
@@ -175,7 +178,7 @@ pub region_cut : (ns : List Node) (ts : List Formula) (k : ℕ) → IsRegion ns 
 region_cut ns ts k r e ms c =
     let P : List Node → Type 0 = λ us. IsRegion us × (trees us ≡ take k ts) in
     subst P (sym c) (
-      record { ordered = AreOrderedFrom-take 0 k ns r.ordered; distinct = subst AreDistinct (sym (trees-take k ns)) (distinct-take k (trees ns) r.distinct) },
+      record { ordered = AreOrderedFrom-take 0 k ns r.ordered; distinct = subst AreDistinct (sym (trees-take k ns)) (distinct-take k (trees ns) r.distinct); named = subst AreNamed (sym (trees-take k ns)) (names_take k (trees ns) r.named) },
       trees-take k ns ∙ ap (take k) e,
     )
   where

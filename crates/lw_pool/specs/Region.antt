@@ -5,6 +5,7 @@ use Rattle.lw_formula.specs.declared.parts.Parts.{Parts}
 use Rattle.lw_formula.specs.declared.parts.Parts.TheVariants.{Nothing, One, Two, Nu, Pi}
 use Rattle.lw_formula.specs.Formula.{Formula, letter, falsum, verum, neg, conj, disj, impl, equi, nec, poss, IsOperand, IsSubformula}
 use Rattle.lw_formula.specs.Signed.{Signed}
+use Rattle.lw_formula.specs.Variables.{HasNames}
 use Rattle.lw_pool.specs.declared.id.FormId.{FormId}
 use Rattle.lw_pool.specs.declared.id.SignedId.{SignedId}
 use Rattle.lw_pool.specs.declared.node.Node.{Node}
@@ -29,6 +30,10 @@ IsAbsent ts t = ¬ Contains ts t
 -- the signed formula of a signed id
 abbrev pub signed_at : List Formula → SignedId → Signed
 signed_at ts s = (s.sign, tree_at ts s.form)
+
+-- the letters of each formula are names
+abbrev pub AreNamed : List Formula → Type 0
+AreNamed ts = (a : FormId) → IsLive ts a → HasNames (tree_at ts a)
 
 -- ids that differ have formulas that differ
 abbrev pub AreIdsExact : List Formula → Type 0

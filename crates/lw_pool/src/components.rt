@@ -1,4 +1,5 @@
 ghost use Rattle.std.specs.Prelude.{◌≡◌, length};
+ghost use Rattle.lw_formula.specs.Components as components;
 ghost use Rattle.lw_formula.specs.Components.{parts_of};
 ghost use Rattle.lw_pool.specs.Region.{IsLive, signed_at, parts_at, ArePartsBelow};
 
@@ -38,6 +39,17 @@ impl Pool {
             (Sign::T, Node::Poss(a)) => Parts::Pi(holds(*a)),
             (_, Node::Var(_) | Node::Bot | Node::Top) => Parts::Nothing,
         }
+    }
+
+    /// Whether it is `T false` or `F true`, which hold nowhere.
+    pub fn is_absurd(&self, item: SignedId) -> bool
+        requires { IsLive self.now item.form }
+        ensures { result ≡ components.is_absurd (signed_at self.now item) }
+    {
+        matches!(
+            (item.sign, self.node(item.form)),
+            (Sign::T, Node::Bot) | (Sign::F, Node::Top)
+        )
     }
 }
 

@@ -1,11 +1,12 @@
-ghost use Rattle.std.specs.Prelude.{◌≡◌, List, length, min, IfOk};
-ghost use Rattle.lw_formula.specs.Formula.{Formula, depth};
-ghost use Rattle.lw_pool.specs.Region.{tree_at, IsLive, AreChildrenBelow, tree_of_node};
-ghost use Rattle.lw_pool.specs.Private.IdWalk.{AreDepths};
+ghost use Rattle.std.specs.Prelude.{◌≡◌, min, IfOk, ⊤};
+ghost use Rattle.std.below.core.specs.declared.int.usize.TheConstants.{MAX};
+ghost use Rattle.lw_formula.specs.Formula.{depth};
+ghost use Rattle.lw_pool.specs.Region.{tree_at, IsLive};
 
 use crate::id::FormId;
 use crate::node::Node;
 use crate::pool::Pool;
+use crate::walk::{Step, fold};
 use std::alloc::AllocError;
 
 impl Pool {
@@ -15,27 +16,38 @@ impl Pool {
         requires { IsLive self.now id }
         ensures { IfOk result (λ modal_depth. modal_depth ≡ min (depth (tree_at self.now id)) usize.MAX) }
     {
-        let mut depths = Vec::with_capacity(self.allocator(), id.0)?;
-        for at in 0..id.0 {
-            let depth = node_depth(&depths, self.node(FormId(at)));
-            depths.push(depth)?;
-        }
-        Ok(node_depth(&depths, self.node(id)))
+        let mut pool = self;
+        fold(self.allocator(), &mut pool, id, &Depth)
     }
 }
 
-/// The depth of a node's formula, from the depths of those below it.
-fn node_depth(depths: &[usize], node: &Node) -> usize
-    requires { AreChildrenBelow (length depths.now) node.now }
-    ensures { (ts : List Formula) → AreDepths usize.MAX ts depths.now →
-        result ≡ min (depth (tree_of_node ts node.now)) usize.MAX }
-{
-    match node {
-        Node::Var(_) | Node::Bot | Node::Top => 0,
-        Node::Not(a) => depths[a.0],
-        Node::And(a, b) | Node::Or(a, b) | Node::Imp(a, b) | Node::Iff(a, b) => {
-            depths[a.0].max(depths[b.0])
-        }
-        Node::Nec(a) | Node::Poss(a) => depths[a.0].saturating_add(1),
+/// The walk that finds modal depths.
+#[derive(Drop)]
+struct Depth;
+
+impl<'a> Step<&'a Pool> for Depth {
+    type Out = usize;
+
+    ghost is_right = { λ _ _ a modal_depth. modal_depth ≡ min (depth a) MAX };
+
+    ghost suits = { λ _ _. ⊤ };
+
+    ghost suits_on = { λ _ _ _ _ suits. suits };
+
+    ghost lasts = { λ _ _ _ _ _ _ _ right. right };
+
+    fn blank(&self) -> usize {
+        0
+    }
+
+    fn step(&self, pool: &mut &'a Pool, at: FormId, done: &[usize]) -> Result<usize, AllocError> {
+        Ok(match pool.node(at) {
+            Node::Var(_) | Node::Bot | Node::Top => 0,
+            Node::Not(a) => done[a.0],
+            Node::And(a, b) | Node::Or(a, b) | Node::Imp(a, b) | Node::Iff(a, b) => {
+                done[a.0].max(done[b.0])
+            }
+            Node::Nec(a) | Node::Poss(a) => done[a.0].saturating_add(1),
+        })
     }
 }

@@ -4,6 +4,7 @@
 mod components;
 mod conversion;
 mod depth;
+mod guard;
 mod id;
 mod mark;
 mod node;
@@ -13,8 +14,10 @@ mod substitution;
 #[cfg(test)]
 mod tests;
 mod variable;
+mod walk;
 
 pub use id::{FormId, SignedId};
 pub use mark::Mark;
 pub use node::Node;
 pub use pool::Pool;
+pub use walk::{Formulas, Step, fold};

@@ -3,8 +3,8 @@ ghost use Rattle.std.specs.List.{slice_index_or};
 ghost use Rattle.lw_formula.specs.Private.FormulaCode.{coded_formula};
 ghost use Rattle.lw_formula.specs.FiniteModel.{AreDistinct};
 ghost use Rattle.lw_formula.specs.Formula.{Formula};
-ghost use Rattle.lw_pool.specs.Region.{tree_at, IsLive, AreChildrenBelow, tree_of_node, Grows, IsAt, IsMade, IsAbsent, AreIdsExact, AreOperandsBelow};
-ghost use Rattle.lw_pool.specs.Private.NodeRegion.{trees, IsRegion};
+ghost use Rattle.lw_pool.specs.Region.{tree_at, IsLive, AreChildrenBelow, tree_of_node, Grows, IsAt, IsMade, IsAbsent, AreIdsExact, AreNamed, AreOperandsBelow};
+ghost use Rattle.lw_pool.specs.Private.NodeRegion.{trees, IsNamed, IsRegion};
 ghost use base.Stored.{coded_list};
 
 use crate::id::FormId;
@@ -51,6 +51,7 @@ impl Pool {
         ensures failed { OnErr result (self.new ≡ self.old) }
         ensures absent { OnErr result (IsAbsent self.old (tree_of_node self.old node)) }
     {
+        check_name(&node);
         let (index, _) = self.nodes.insert_full(node)?;
         Ok(FormId(index))
     }
@@ -70,6 +71,7 @@ impl Pool {
         ensures distinct { AreDistinct self.now }
         ensures ids { AreIdsExact self.now }
         ensures operands { AreOperandsBelow self.now }
+        ensures names { AreNamed self.now }
     {
         self.nodes.len()
     }
@@ -97,6 +99,15 @@ impl Pool {
         ensures operands { AreOperandsBelow self.now }
     {
         *self.nodes.allocator()
+    }
+}
+
+/// The node's own letter, if it is one, is a name, as its type says.
+fn check_name(node: &Node)
+    ensures { IsNamed node.now }
+{
+    if let Node::Var(name) = node {
+        let _ = name.as_bytes();
     }
 }
 

@@ -1,11 +1,12 @@
-ghost use Rattle.std.specs.Prelude.{◌≤◌, length, IsTrue, IfOk};
+ghost use Rattle.std.specs.Prelude.{IfOk};
 ghost use Rattle.lw_formula.specs.Variables.{replace};
 ghost use Rattle.lw_pool.specs.Region.{tree_at, IsLive, IsAt, Grows};
-ghost use Rattle.lw_pool.specs.Private.IdWalk.{AreOperandsDone};
+ghost use Rattle.lw_pool.specs.Private.Substituted.{IsSubstituted, IsLive-grows, IsSubstituted-grows};
 
 use crate::id::FormId;
 use crate::node::Node;
 use crate::pool::Pool;
+use crate::walk::{Step, fold};
 use lw_formula::Name;
 use std::alloc::AllocError;
 
@@ -18,66 +19,64 @@ impl Pool {
         ensures at { IfOk result (IsAt self.new (replace name.now (tree_at self.old by) (tree_at self.old id))) }
         ensures grows { Grows self.old self.new }
     {
-        let marks = self.subformula_table(id)?;
-        let mut done = Vec::with_capacity(self.allocator(), id.0)?;
-        for at in 0..id.0 {
-            let new = self.replaced(FormId(at), marks[at], &done, name, by)?;
-            done.push(new)?;
-        }
-        self.replaced(id, true, &done, name, by)
+        let alloc = self.allocator();
+        fold(alloc, self, id, &Substitution { name, by })
+    }
+}
+
+/// The walk that puts the formula at `by` for each occurrence of the variable.
+#[derive(Drop)]
+struct Substitution<'a> {
+    name: &'a Name,
+    by: FormId,
+}
+
+impl<'a> Step<Pool> for Substitution<'a> {
+    type Out = FormId;
+
+    ghost is_right = { λ change. IsSubstituted change.name.now change.by };
+
+    ghost suits = { λ change ts. IsLive ts change.by };
+
+    ghost suits_on = { λ change old new grows live. IsLive-grows old new change.by grows live };
+
+    ghost lasts = { λ change old new a id grows live at. IsSubstituted-grows change.name.now change.by old new a id grows live at };
+
+    fn blank(&self) -> FormId {
+        self.by
     }
 
-    /// The id of one formula after the substitution, where `done` has those of the formulas below it. What isn't
-    /// wanted stays itself.
-    fn replaced(
-        &mut self,
-        at: FormId,
-        wanted: bool,
-        done: &[FormId],
-        name: &Name,
-        by: FormId,
-    ) -> Result<FormId, AllocError>
-        requires at { IsLive self.old at }
-        requires by { IsLive self.old by }
-        requires done { at.0 ≤ length done.now }
-        requires operands { IsTrue wanted → AreOperandsDone (replace name.now (tree_at self.old by)) self.old done.now at }
-        ensures at { IsTrue wanted →
-            IfOk result (IsAt self.new (replace name.now (tree_at self.old by) (tree_at self.old at))) }
-        ensures grows { Grows self.old self.new }
-    {
-        if !wanted {
-            return Ok(at);
-        }
-        match self.node(at) {
-            Node::Var(own) => Ok(if own == name { by } else { at }),
+    fn step(&self, pool: &mut Pool, at: FormId, done: &[FormId]) -> Result<FormId, AllocError> {
+        match pool.node(at) {
+            Node::Var(own) => Ok(if own == self.name { self.by } else { at }),
             Node::Bot | Node::Top => Ok(at),
             Node::Not(a) => {
                 let a = done[a.0];
-                self.make(Node::Not(a))
+                pool.make(Node::Not(a))
             }
             Node::And(a, b) => {
                 let (a, b) = (done[a.0], done[b.0]);
-                self.make(Node::And(a, b))
+                pool.make(Node::And(a, b))
             }
             Node::Or(a, b) => {
                 let (a, b) = (done[a.0], done[b.0]);
-                self.make(Node::Or(a, b))
+                pool.make(Node::Or(a, b))
             }
             Node::Imp(a, b) => {
                 let (a, b) = (done[a.0], done[b.0]);
-                self.make(Node::Imp(a, b))
+                pool.make(Node::Imp(a, b))
             }
             Node::Iff(a, b) => {
                 let (a, b) = (done[a.0], done[b.0]);
-                self.make(Node::Iff(a, b))
+                pool.make(Node::Iff(a, b))
             }
             Node::Nec(a) => {
                 let a = done[a.0];
-                self.make(Node::Nec(a))
+                pool.make(Node::Nec(a))
             }
             Node::Poss(a) => {
                 let a = done[a.0];
-                self.make(Node::Poss(a))
+                pool.make(Node::Poss(a))
             }
         }
     }
