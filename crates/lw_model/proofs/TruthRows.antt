@@ -1,22 +1,17 @@
 -- Rows of truth values: what the loops keep of them, and what they say at the end.
-use Rattle.std.proofs.Common.{◌≡◌, ℕ, ◌+◌, ◌<◌, Bool, true, false, List, [], ◌∷◌, ◌++◌, length, get_or, set, ◌↔◌, refl, sym, subst, ◌∙◌, ⊎_elim, arith, IsTrue, Result, Ok, Err, IfOk}
+use Rattle.std.proofs.Common.{◌≡◌, ℕ, ◌+◌, ◌<◌, Bool, true, false, List, length, get_or, set, ◌↔◌, refl, sym, subst, ◌∙◌, ⊎_elim, arith, IsTrue}
 use Rattle.std.specs.Bool.{Decides}
 use Rattle.std.specs.List.{All, Contains}
-use Rattle.std.proofs.lemmas.Bool.{cases_lt, cases_eq, false≢true}
+use Rattle.std.proofs.lemmas.Bool.{cases_eq, false≢true}
 use Rattle.std.proofs.lemmas.Bool.Decides.{Decides-like}
-use Rattle.std.proofs.lemmas.List.{get_or_default, get_or_append_left, get_or_push, get_or-set_same, get_or-set_other, length_push}
+use Rattle.std.proofs.lemmas.List.{get_or_default, get_or-set_same, get_or-set_other}
 use Rattle.std.proofs.lemmas.List.Elements.{All-contains}
-use Rattle.lw_formula.specs.Formula.{Formula, falsum, letter, nec, poss}
+use Rattle.lw_formula.specs.Formula.{Formula, letter, nec, poss}
 use Rattle.lw_formula.specs.FiniteModel.{FiniteModel, IsWellFormed, Sees, HasFact}
 use Rattle.lw_formula.specs.Truth.{IsTrueAt, true_at}
 use Rattle.lw_formula.proofs.ListMembers.{All-members}
 use Rattle.lw_formula.proofs.TruthTest.{true_at-IsTrueAt}
-use Rattle.lw_pool.specs.declared.id.FormId.{FormId}
-use Rattle.lw_pool.specs.declared.node.Node.{Node}
-use Rattle.lw_pool.specs.Region.{tree_at, tree_of_node}
-use Rattle.lw_formula.specs.declared.joint.Joint.{Joint}
-use Rattle.lw_formula.specs.Joint.{join}
-use Rattle.lw_model.specs.Private.TruthTable.{IsRow, AreRows}
+use Rattle.lw_model.specs.Private.TruthTable.{IsRow}
 
 -- what holds at each place of a list holds of each member
 pub each-Contains : (P : ℕ → Type 0) (ws : List ℕ) → ((k : ℕ) → k < length ws → P (get_or ws k 0)) → (w : ℕ) → Contains ws w → P w
@@ -72,25 +67,3 @@ IsRow-nec m a of row ok long each r =
     (λ all v s. (tells m a of v r (seen m w v ok s)).0 (all v s))
     (λ all v s. (tells m a of v r (seen m w v ok s)).1 (all v s))
     (each w k))
-
--- one row more
-pub AreRows-push : (m : FiniteModel) (ts : List Formula) (rows : List (List Bool)) (row : List Bool) → AreRows m ts rows → IsRow m (get_or ts (length rows) falsum) row → AreRows m ts (rows ++ row ∷ [])
-AreRows-push m ts rows row h r k l =
-    ⊎_elim
-    (λ before. subst (λ z. IsRow m (get_or ts k falsum) z) (sym (get_or_append_left rows (row ∷ []) [] k before)) (h k before))
-    (λ g. let at : length rows ≡ k = omega (arith, l, length_push rows row) in
-    subst (λ z. IsRow m (get_or ts k falsum) z) (sym (get_or_push rows row [] k at)) (subst (λ j. IsRow m (get_or ts j falsum) row) at r))
-    (cases_lt k (length rows))
-
--- a row that is read is the row of the formula at its place
-pub row_read : (m : FiniteModel) (ts : List Formula) (rows : List (List Bool)) (k : ℕ) (row : List Bool) → AreRows m ts rows → k < length rows → row ≡ get_or rows k row → IsRow m (get_or ts k falsum) row
-row_read m ts rows k row h l read = subst (IsRow m (get_or ts k falsum)) (get_or_default rows k [] row l ∙ sym read) (h k l)
-
--- a node with one operand, and one with two
-pub one_operand : {E : Type 0} (m : FiniteModel) (rows : List (List Bool)) (node : Node) (a : FormId) (f : Formula → Formula) (of : List Bool) (r : Result (List Bool) E) → ((ts : List Formula) → tree_of_node ts node ≡ f (tree_at ts a)) → a.0 < length rows → of ≡ get_or rows a.0 of → IfOk r (λ row. (b : Formula) → IsRow m b of → IsRow m (f b) row) → IfOk r (λ row. (ts : List Formula) → AreRows m ts rows → IsRow m (tree_of_node ts node) row)
-one_operand m rows node a f of (Ok row) e l read h = λ ts are. subst (λ b. IsRow m b row) (sym (e ts)) (h (tree_at ts a) (row_read m ts rows a.0 of are l read))
-one_operand m rows node a f of (Err x) e l read h = tt
-
-pub two_operands : {E : Type 0} (m : FiniteModel) (rows : List (List Bool)) (node : Node) (a b : FormId) (c : Joint) (left right : List Bool) (r : Result (List Bool) E) → ((ts : List Formula) → tree_of_node ts node ≡ join c (tree_at ts a) (tree_at ts b)) → a.0 < length rows → b.0 < length rows → left ≡ get_or rows a.0 left → right ≡ get_or rows b.0 right → IfOk r (λ row. (p q : Formula) → IsRow m p left → IsRow m q right → IsRow m (join c p q) row) → IfOk r (λ row. (ts : List Formula) → AreRows m ts rows → IsRow m (tree_of_node ts node) row)
-two_operands m rows node a b c left right (Ok row) e k l first second h = λ ts are. subst (λ p. IsRow m p row) (sym (e ts)) (h (tree_at ts a) (tree_at ts b) (row_read m ts rows a.0 left are k first) (row_read m ts rows b.0 right are l second))
-two_operands m rows node a b c left right (Err x) e k l first second h = tt

@@ -1,4 +1,4 @@
-ghost use Rattle.std.specs.Prelude.{◌≡◌, ◌<◌, Bool, false, List, length, IfOk, replicate, slice_set};
+ghost use Rattle.std.specs.Prelude.{◌≡◌, ◌<◌, Bool, false, List, [], length, IfOk, replicate, slice_set};
 ghost use Rattle.std.specs.List.{slice_index_or};
 
 use std::alloc::{AllocError, Global};
@@ -17,6 +17,15 @@ impl Model for Row {
 }
 
 impl Row {
+    /// A row of no worlds, which takes no memory.
+    pub(crate) fn empty(alloc: Global) -> Row
+        ensures { result ≡ [] }
+    {
+        Row {
+            bits: Vec::new(alloc),
+        }
+    }
+
     /// The row with this value at each of so many worlds.
     pub(crate) fn new(alloc: Global, worlds: usize, value: bool) -> Result<Row, AllocError>
         ensures { IfOk result (λ row. row ≡ replicate worlds value) }

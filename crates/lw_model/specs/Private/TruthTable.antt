@@ -1,8 +1,8 @@
 -- The table by which `holds` tells truth: a row for each formula of a pool, with its truth at each world.
-use Rattle.std.specs.Prelude.{◌≡◌, ℕ, ◌<◌, Bool, false, not, ◌&&◌, ◌||◌, List, [], length}
+use Rattle.std.specs.Prelude.{◌≡◌, ℕ, ◌<◌, Bool, false, not, ◌&&◌, ◌||◌, List, length}
 use Rattle.std.specs.Bool.{beq}
 use Rattle.std.specs.List.{slice_index_or}
-use Rattle.lw_formula.specs.Formula.{Formula, falsum, conj, disj, impl, equi}
+use Rattle.lw_formula.specs.Formula.{Formula}
 use Rattle.lw_formula.specs.FiniteModel.{FiniteModel}
 use Rattle.lw_formula.specs.Truth.{true_at}
 use Rattle.lw_formula.specs.declared.joint.Joint.{Joint}
@@ -12,10 +12,6 @@ use Rattle.lw_formula.specs.declared.joint.Joint.TheVariants.{And, Or, Imp, Iff}
 pub record IsRow (m : FiniteModel) (a : Formula) (row : List Bool) : Type 0 where
   pub long : length row ≡ m.worlds
   pub exact : (w : ℕ) → w < m.worlds → slice_index_or row w false ≡ true_at m w a
-
--- the rows are those of the first formulas
-abbrev pub AreRows : FiniteModel → List Formula → List (List Bool) → Type 0
-AreRows m ts rows = (k : ℕ) → k < length rows → IsRow m (slice_index_or ts k falsum) (slice_index_or rows k [])
 
 -- the connective's truth table
 abbrev pub truth_table : Joint → Bool → Bool → Bool

@@ -21,5 +21,5 @@ loop-world-preserved c =
           (λ t v s. told.0 t v ((exact v).1 s), λ all. told.1 (λ v h. all v ((exact v).0 h))),
     )
 
-pub returns-clause-truth : goal.returns-clause-truth
-returns-clause-truth c a r = IsRow-nec c.args.model.now a c.args.of.now c.loop-world.row c.worlds.ensures.well_formed c.loop-world.invariant.0 (λ w k. c.loop-world.invariant.1 w (omega arith)) r
+pub returns : goal.returns
+returns c a r = IsRow-nec c.args.model.now a c.args.of.now c.loop-world.row c.worlds.ensures.well_formed c.loop-world.invariant.0 (λ w k. c.loop-world.invariant.1 w (omega arith)) r

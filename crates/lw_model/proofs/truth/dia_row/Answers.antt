@@ -21,5 +21,5 @@ loop-world-preserved c =
           (λ t. let some = told.0 t in (some.0, (exact some.0).0 some.1, some.2), λ some. told.1 (some.0, (exact some.0).1 some.1, some.2)),
     )
 
-pub returns-clause-truth : goal.returns-clause-truth
-returns-clause-truth c a r = IsRow-poss c.args.model.now a c.args.of.now c.loop-world.row c.worlds.ensures.well_formed c.loop-world.invariant.0 (λ w k. c.loop-world.invariant.1 w (omega arith)) r
+pub returns : goal.returns
+returns c a r = IsRow-poss c.args.model.now a c.args.of.now c.loop-world.row c.worlds.ensures.well_formed c.loop-world.invariant.0 (λ w k. c.loop-world.invariant.1 w (omega arith)) r

@@ -14,5 +14,5 @@ loop-world-preserved c =
       set-below (λ w b. Decides b (HasFact c.args.model.now w c.args.name.now)) row c.loop-world.world c.fact.result within c.loop-world.invariant.1 c.fact.ensures,
     )
 
-pub returns-clause-truth : goal.returns-clause-truth
-returns-clause-truth c = IsRow-letter c.args.model.now c.args.name.now c.loop-world.row c.loop-world.invariant.0 (λ w k. c.loop-world.invariant.1 w (omega arith))
+pub returns : goal.returns
+returns c = IsRow-letter c.args.model.now c.args.name.now c.loop-world.row c.loop-world.invariant.0 (λ w k. c.loop-world.invariant.1 w (omega arith))
