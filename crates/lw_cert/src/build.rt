@@ -4,19 +4,8 @@ ghost use Rattle.lw_proof.specs.Break.{arity};
 ghost use Rattle.lw_cert.specs.Private.StageViews.{grown, ruled};
 
 use crate::stage::Step;
-use lw_proof::{Proof, Rule};
+use lw_proof::Proof;
 use std::alloc::{AllocError, Global};
-
-/// How many subproofs a step by the rule has.
-pub fn arity(rule: Rule) -> usize
-    ensures { result ≡ arity rule }
-{
-    match rule {
-        Rule::Close | Rule::Absurd => 0,
-        Rule::One | Rule::Refl | Rule::Step => 1,
-        Rule::Two | Rule::Cut => 2,
-    }
-}
 
 /// The proofs that the steps in pre-order make, the first one last. It fails for want of memory alone.
 pub fn built(alloc: Global, mut steps: Vec<Step>) -> Result<Vec<Proof>, AllocError>
@@ -35,7 +24,7 @@ fn put(alloc: Global, step: &Step, proofs: &mut Vec<Proof>) -> Result<(), AllocE
         ≡ node step.now.rule step.now.principal (forest (take (arity step.now.rule) (reverse proofs.old.items)))
         ∷ drop (arity step.now.rule) (reverse proofs.old.items)) }
 {
-    let subs = taken(alloc, arity(step.rule), proofs)?;
+    let subs = taken(alloc, step.rule.arity(), proofs)?;
     proofs.push(Proof::new(step.rule, step.principal, subs))?;
     Ok(())
 }

@@ -5,7 +5,7 @@ ghost use Rattle.lw_formula.specs.Formula.{Formula};
 ghost use Rattle.lw_pool.specs.Region.{Grows};
 ghost use Rattle.lw_cert.specs.Private.StageViews.{IsNext, Concludes, grown, ruled, table};
 
-use crate::build::{arity, built};
+use crate::build::built;
 use crate::certificate::{Body, Certificate};
 use crate::formula::exact;
 use crate::row::read_row;
@@ -139,7 +139,7 @@ fn stepped(
     }
     let principal = SignedId { sign, form };
     steps.push(Step { rule, principal })?;
-    push_all(&mut depths, depth + 1, arity(rule))?;
+    push_all(&mut depths, depth + 1, rule.arity())?;
     Ok(Some(Stage::Proving(head, depths, steps)))
 }
 

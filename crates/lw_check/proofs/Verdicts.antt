@@ -19,7 +19,7 @@ use Rattle.lw_proof.specs.Derivation.{is_subformula, goal_cuts, only, Proves}
 use Rattle.lw_proof.specs.Break.{break_from, first_break}
 use Rattle.lw_proof.specs.Pooled.{proof_at, IsProofLive}
 use Rattle.lw_proof.proofs.FirstBreaks.{break_is_exact}
-use Rattle.lw_proof.proofs.Soundness.{proved_is_valid}
+use Rattle.lw_proof.proofs.SoundRules.{proved_is_valid}
 use Rattle.lw_check.specs.declared.verdict.Verdict.{Verdict}
 use Rattle.lw_check.specs.declared.verdict.Verdict.TheVariants.{Accepted, Rejected}
 use Rattle.lw_check.specs.declared.walked.Walked.{Walked}

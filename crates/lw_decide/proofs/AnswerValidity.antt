@@ -2,7 +2,7 @@
 use Rattle.std.proofs.Common.{List}
 use Rattle.lw_formula.specs.declared.logic.Logic.{Logic}
 use Rattle.lw_formula.specs.Formula.{Formula}
-use Rattle.lw_proof.proofs.Soundness.{proved_is_valid}
+use Rattle.lw_proof.proofs.SoundRules.{proved_is_valid}
 use Rattle.lw_proof.specs.Pooled.{proof_at}
 use Rattle.lw_counter.specs.Answers.{IsAnswerTo}
 use Rattle.lw_counter.specs.declared.answer.Answer.{Answer}

@@ -1,6 +1,6 @@
 -- What closes a set closes each set that has all its members.
 use Rattle.std.proofs.Common.{◌≡◌, Bool, true, ◌&&◌, ◌||◌, List, [], ◌∷◌, inl, inr}
-use Rattle.std.specs.Bool.{IsTrue, ⊤}
+use Rattle.std.specs.Bool.{⊤}
 use Rattle.std.specs.List.{list_any}
 use Rattle.std.proofs.lemmas.Bool.{or_cases, or_left, or_right, and_parts, and_from}
 use Rattle.lw_formula.specs.declared.logic.Logic.{Logic}

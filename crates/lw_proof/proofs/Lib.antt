@@ -1,10 +1,10 @@
+pub mod SignedIdLists
 pub mod SignedMeaning
 pub mod LastWorld
 pub mod StepWorlds
-pub mod Soundness
+pub mod SoundRules
 pub mod LargerSets
 pub mod FirstBreaks
 pub mod ListedTrees
-pub mod LeanProofs
 pub mod MappedProofs
 pub mod FirstSubproofs

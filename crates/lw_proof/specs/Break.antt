@@ -22,9 +22,13 @@ arity Rule.Cut = 2
 
 -- whether the rule is one of the logic
 abbrev pub in_logic : Logic → Rule → Bool
+in_logic L Rule.Close = true
+in_logic L Rule.Absurd = true
+in_logic L Rule.One = true
+in_logic L Rule.Two = true
 in_logic L Rule.Refl = has_refl L
+in_logic L Rule.Step = true
 in_logic L Rule.Cut = has_cut L
-in_logic L _ = true
 
 -- the first of two, where there is one
 abbrev pub or_else : {X : Type 0} → Option X → Option X → Option X
@@ -50,13 +54,22 @@ module _ {I : Type 0} (S : System I) where
   -- whether the set has what must be there
   abbrev pub present : Set I → Rule → I → Bool
   present X Rule.Close s = X s && X (S.flip s)
+  present X Rule.Absurd s = X s
+  present X Rule.One s = X s
+  present X Rule.Two s = X s
+  present X Rule.Refl s = X s
+  present X Rule.Step s = X s
   present X Rule.Cut s = true
-  present X _ s = X s
 
   -- whether the formula of a cut may be cut
   abbrev pub in_goal : Set I → Rule → I → Bool
+  in_goal cuts Rule.Close s = true
+  in_goal cuts Rule.Absurd s = true
+  in_goal cuts Rule.One s = true
+  in_goal cuts Rule.Two s = true
+  in_goal cuts Rule.Refl s = true
+  in_goal cuts Rule.Step s = true
   in_goal cuts Rule.Cut s = cuts s
-  in_goal cuts _ s = true
 
   -- the first reason why a step with n subproofs breaks its rule
   abbrev pub reason : Set I → Logic → Set I → Rule → I → ℕ → Option Why

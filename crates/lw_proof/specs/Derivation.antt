@@ -14,13 +14,20 @@ use Rattle.lw_proof.specs.System.{Set, System, trees, same_signed}
 -- the logics whose worlds see themselves
 abbrev pub has_refl : Logic → Bool
 has_refl K = false
+has_refl KT = true
+has_refl S4 = true
+has_refl S5 = true
 has_refl GL = false
-has_refl _ = true
+has_refl Grz = true
 
 -- the logic in which a proof may cut, on subformulas of its goal alone
 abbrev pub has_cut : Logic → Bool
+has_cut K = false
+has_cut KT = false
+has_cut S4 = false
 has_cut S5 = true
-has_cut _ = false
+has_cut GL = false
+has_cut Grz = false
 
 -- there is one premise, with all components
 abbrev pub is_one : {I : Type 0} → Parts I → Bool
@@ -66,18 +73,26 @@ module _ {I : Type 0} (S : System I) where
 
   -- what the step on the π s with the component c adds: c, in GL also s under the other sign, in Grz also the guard of s
   abbrev pub added : Logic → I → I → List I
+  added K s c = c ∷ []
+  added KT s c = c ∷ []
+  added S4 s c = c ∷ []
+  added S5 s c = c ∷ []
   added GL s c = c ∷ S.flip s ∷ []
   added Grz s c = c ∷ option_to_list (S.guard s)
-  added _ s c = c ∷ []
 
-  -- the sets that are left to be closed by a rule on s, which comes to p: a line for each rule that leaves some
+  -- the sets that are left to be closed by a rule on s, which comes to p; none where p isn't what the rule takes
   abbrev pub premises : Logic → Rule → I → Parts I → Set I → List (Set I)
+  premises L Rule.Close s p X = []
+  premises L Rule.Absurd s p X = []
   premises L Rule.One s (Parts.One c d) X = plus (side c d) X ∷ []
+  premises L Rule.One s _ X = []
   premises L Rule.Two s (Parts.Two a b) X = plus (side a.0 a.1) X ∷ plus (side b.0 b.1) X ∷ []
+  premises L Rule.Two s _ X = []
   premises L Rule.Refl s (Parts.Nu c) X = plus (c ∷ []) X ∷ []
+  premises L Rule.Refl s _ X = []
   premises L Rule.Step s (Parts.Pi c) X = plus (added L s c) (kept L X) ∷ []
+  premises L Rule.Step s _ X = []
   premises L Rule.Cut s p X = plus (s ∷ []) X ∷ plus (S.flip s ∷ []) X ∷ []
-  premises L _ s p X = []
 
   -- the rule may be used on s where X is to be closed, with `cuts` for what may be cut: a line for each rule
   abbrev pub Applies : Set I → Logic → Set I → Rule → I → Type 0

@@ -1,5 +1,5 @@
 -- Lean proofs: each premise but a step's has something new, and the formula bounds the steps on a path. So the formula bounds the proof.
-use Rattle.std.specs.Prelude.{ℕ, ◌+◌, ◌-◌, ◌^◌, ◌<◌, ◌≤◌, max, IsTrue, List, [], ◌∷◌, ⊤}
+use Rattle.std.specs.Prelude.{ℕ, ◌+◌, ◌^◌, ◌≤◌, max, IsTrue, List, [], ◌∷◌, ⊤}
 use Rattle.lw_formula.specs.declared.logic.Logic.{Logic}
 use Rattle.lw_formula.specs.declared.sign.Sign.TheVariants.{F}
 use Rattle.lw_formula.specs.Formula.{Formula, modal_count}
@@ -7,12 +7,17 @@ use Rattle.lw_formula.specs.Signed.{Signed}
 use Rattle.lw_proof.specs.declared.rule.Rule.{Rule}
 use Rattle.lw_proof.specs.Tree.{Tree, Forest, node, none, more}
 use Rattle.lw_proof.specs.System.{Set, System, trees}
-use Rattle.lw_proof.specs.Derivation.{premises, Applies, Proves, only}
+use Rattle.lw_proof.specs.Derivation.{premises, Proves, only}
 
 -- how many Steps the rule is
 abbrev pub own_steps : Rule → ℕ
+own_steps Rule.Close = 0
+own_steps Rule.Absurd = 0
+own_steps Rule.One = 0
+own_steps Rule.Two = 0
+own_steps Rule.Refl = 0
 own_steps Rule.Step = 1
-own_steps _ = 0
+own_steps Rule.Cut = 0
 
 -- the greatest number of Steps on a path
 abbrev mutual
@@ -34,17 +39,13 @@ AllHaveNew X (Y ∷ Ys) = HasNew X Y × AllHaveNew X Ys
 
 -- so has each premise of a rule other than Step
 abbrev pub Gains : {I : Type 0} → Rule → Set I → List (Set I) → Type 0
+Gains Rule.Close X Ys = AllHaveNew X Ys
+Gains Rule.Absurd X Ys = AllHaveNew X Ys
+Gains Rule.One X Ys = AllHaveNew X Ys
+Gains Rule.Two X Ys = AllHaveNew X Ys
+Gains Rule.Refl X Ys = AllHaveNew X Ys
 Gains Rule.Step X Ys = ⊤
-Gains _ X Ys = AllHaveNew X Ys
-
--- a Step may be used while some are left
-abbrev pub HasLeft : Rule → ℕ → Type 0
-HasLeft Rule.Step n = 0 < n
-HasLeft _ n = ⊤
-
--- how many Steps are left above the rule
-abbrev pub left_above : Rule → ℕ → ℕ
-left_above r n = n - own_steps r
+Gains Rule.Cut X Ys = AllHaveNew X Ys
 
 module _ {I : Type 0} (S : System I) where
   -- the proof that is to close the set has something new in each premise of a rule other than Step
@@ -55,18 +56,6 @@ module _ {I : Type 0} (S : System I) where
     pub GrowAll : Logic → List (Set I) → Forest I → Type 0
     GrowAll L (X ∷ Xs) (more t ts) = Grows L X t × GrowAll L Xs ts
     GrowAll L _ _ = ⊤
-
-  -- the proof closes the set, grows, and has at most n Steps on a path: all three in one recursion, as a search finds them
-  abbrev mutual
-    pub ClosesLeanly : Set I → Logic → ℕ → Set I → Tree I → Type 0
-    ClosesLeanly cuts L n X (node r s ts) =
-        Applies S cuts L X r s × Gains r X (premises S L r s (S.parts s) X) × HasLeft r n
-        × AllCloseLeanly cuts L (left_above r n) (premises S L r s (S.parts s) X) ts
-
-    pub AllCloseLeanly : Set I → Logic → ℕ → List (Set I) → Forest I → Type 0
-    AllCloseLeanly cuts L n [] none = ⊤
-    AllCloseLeanly cuts L n (X ∷ Xs) (more t ts) = ClosesLeanly cuts L n X t × AllCloseLeanly cuts L n Xs ts
-    AllCloseLeanly cuts L n _ _ = ⊥
 
 -- the proof proves the goal, each premise of a One, Two, Refl or Cut has something that the set before it lacks, and no path has more
 -- Steps than the square of one more than the goal's modal subformulas

@@ -5,4 +5,5 @@ pub mod Break
 pub mod Laws
 pub mod Lean
 pub mod Pooled
+pub mod SignedIds
 pub mod Private

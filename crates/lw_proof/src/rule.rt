@@ -1,3 +1,5 @@
+ghost use Rattle.std.specs.Prelude.{◌≡◌};
+
 /// A rule of the calculus, which a step of a proof names.
 #[derive(Clone, Copy, Debug, PartialEq, Eq, Hash)]
 pub enum Rule {
@@ -15,4 +17,19 @@ pub enum Rule {
     Step,
     /// In the first premise a formula is added under T, in the second under F.
     Cut,
+}
+
+impl Rule {
+    ghost use Rattle.lw_proof.specs.Break.{arity};
+
+    /// How many premises the rule has: so many subproofs has a step that keeps it.
+    pub fn arity(self) -> usize
+        ensures { result ≡ arity self }
+    {
+        match self {
+            Rule::Close | Rule::Absurd => 0,
+            Rule::One | Rule::Refl | Rule::Step => 1,
+            Rule::Two | Rule::Cut => 2,
+        }
+    }
 }

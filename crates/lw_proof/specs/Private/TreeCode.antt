@@ -1,4 +1,5 @@
--- The code of proof trees, by which `Proof` has them for its `Value`, and the measure by which each subproof is smaller.
+-- The codes of signed ids and of proof trees, by which `SignedIds` and `Proof` have them for their `Value`, and the measure by which
+-- each subproof is smaller.
 use Rattle.std.specs.Prelude.{◌≡◌, ℕ, ◌+◌, ◌≤◌, ◌==◌, if◌then◌else◌, List, [], ◌∷◌}
 use Rattle.std.proofs.Common.{refl, sym, ap, ◌∙◌, arith}
 use base.Stored.{Gv, gnil, gnum, gcons, num, Coded}
@@ -29,6 +30,12 @@ numbered_sign-sign_number F = refl
 
 pub id_back-id_code : (s : SignedId) → id_back (id_code s) ≡ s
 id_back-id_code s = λ i. record { sign = numbered_sign-sign_number s.sign i; form = s.form }
+
+abbrev pub coded_id : Coded SignedId
+coded_id = record {
+  code = id_code;
+  inj = λ s t p. sym (id_back-id_code s) ∙ ap id_back p ∙ id_back-id_code t;
+}
 
 abbrev pub rule_number : Rule → ℕ
 rule_number Rule.Close = 0

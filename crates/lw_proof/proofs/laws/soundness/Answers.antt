@@ -1,4 +1,4 @@
-use Rattle.lw_proof.proofs.Soundness.{proved_is_valid}
+use Rattle.lw_proof.proofs.SoundRules.{proved_is_valid}
 use Rattle.lw_proof.proofs.laws.soundness.Goals as goal
 
 pub returns : goal.returns
