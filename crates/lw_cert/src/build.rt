@@ -31,7 +31,8 @@ fn put(alloc: Global, step: &Step, proofs: &mut Vec<Proof>) -> Result<(), AllocE
 
 // Takes so many proofs from the end, or all where there are fewer.
 fn taken(alloc: Global, count: usize, proofs: &mut Vec<Proof>) -> Result<Vec<Proof>, AllocError>
-    ensures { IfOk result (λ subs. (subs.items ≡ take count (reverse proofs.old.items)) × (reverse proofs.new.items ≡ drop count (reverse proofs.old.items))) }
+    ensures { IfOk result (λ subs. (subs.items ≡ take count (reverse proofs.old.items))
+        × (reverse proofs.new.items ≡ drop count (reverse proofs.old.items))) }
 {
     let mut subs = Vec::new(alloc);
     for _ in 0..count {

@@ -4,7 +4,7 @@ ghost use Rattle.lw_formula.specs.Tree.{tree_of};
 ghost use Rattle.lw_pool.specs.Region.{tree_at, IsLive, Grows};
 ghost use Rattle.lw_read.specs.Grammar.{ReadsAs};
 ghost use Rattle.lw_read.specs.Text.{text_of};
-ghost use Rattle.lw_cert.specs.Private.StageViews.{IsReadAt};
+ghost use Rattle.lw_cert.specs.Private.StageViews.{IsNoFormula, IsReadAt};
 
 use lw_formula::Form;
 use lw_pool::{FormId, Pool};
@@ -14,7 +14,7 @@ use std::alloc::{AllocError, Global};
 /// The id of the formula whose printed text this is, where the text has no fault. The formula is put into the pool
 /// where it isn't there. It fails for want of memory alone.
 pub fn exact(alloc: Global, pool: &mut Pool, text: &[u8]) -> Result<Option<FormId>, AllocError>
-    ensures found { IfOk result (λ found. MatchOption found ((a : Formula) → ReadsAs (text_of a) a → text.now ≢ text_of a) (IsReadAt pool.new text.now)) }
+    ensures found { IfOk result (λ found. MatchOption found (IsNoFormula text.now) (IsReadAt pool.new text.now)) }
     ensures grows { Grows pool.old pool.new }
 {
     one_answer();
@@ -33,7 +33,7 @@ fn entered(
     form: &Form,
 ) -> Result<Option<FormId>, AllocError>
     requires { ReadsAs text.now (tree_of form.now) }
-    ensures found { IfOk result (λ found. MatchOption found ((a : Formula) → ReadsAs (text_of a) a → text.now ≢ text_of a) (IsReadAt pool.new text.now)) }
+    ensures found { IfOk result (λ found. MatchOption found (IsNoFormula text.now) (IsReadAt pool.new text.now)) }
     ensures grows { Grows pool.old pool.new }
 {
     one_tree();

@@ -162,7 +162,8 @@ fn proved(
     line: &[u8],
 ) -> Result<Option<Stage>, AllocError>
     requires { depths.items ≡ [] }
-    ensures { IfOk result (λ next. (all : Vec ℕ Global) → all.items ≡ [] → (ts : List Formula) → IsNext line.now ts (Stage.Proving head all steps) ts next) }
+    ensures { IfOk result (λ next. (all : Vec ℕ Global) → all.items ≡ [] → (ts : List Formula) →
+        IsNext line.now ts (Stage.Proving head all steps) ts next) }
 {
     if line == b"end".as_slice() {
         concluded(alloc, head, steps)
@@ -259,7 +260,8 @@ fn listing(
 
 // Takes the line behind the worlds of a model.
 fn listed(head: Head, model: Model, refuted: usize, line: &[u8]) -> Option<Stage>
-    ensures { (ts : List Formula) (next : ℕ) → model.worlds ≤ next → IsNext line.now ts (Stage.Listing head (table model refuted next)) ts result }
+    ensures { (ts : List Formula) (next : ℕ) → model.worlds ≤ next →
+        IsNext line.now ts (Stage.Listing head (table model refuted next)) ts result }
 {
     if line == b"end".as_slice() {
         Some(Stage::Ended(Certificate {

@@ -21,7 +21,8 @@ pub fn write_proof(
     out: &mut Vec<u8>,
 ) -> Result<(), AllocError>
     requires { IsProofLive pool.now proof.now }
-    ensures { OnOk result (Writes out.old.items out.new.items (λ rest. proof_follows ∷ steps 1 (proof_at pool.now proof.now) (ending ∷ rest))) }
+    ensures { OnOk result (Writes out.old.items out.new.items (λ rest.
+        proof_follows ∷ steps 1 (proof_at pool.now proof.now) (ending ∷ rest))) }
 {
     out.extend_from_slice(b"proof\n")?;
     write_steps(alloc, pool, proof, out)?;

@@ -20,7 +20,8 @@ pub fn read_row(
     model: &mut Model,
 ) -> Result<bool, AllocError>
     requires { world < model.old.worlds }
-    ensures { IfOk result (λ found. MatchBool found (ReadsRow world line.now model.old model.new) (IsNoRow model.old.worlds world line.now)) }
+    ensures { IfOk result (λ found.
+        MatchBool found (ReadsRow world line.now model.old model.new) (IsNoRow model.old.worlds world line.now)) }
 {
     let begins = format!(in alloc; "world {world} sees")?;
     let Some(rest) = after(line, begins.as_bytes()) else {

@@ -2,7 +2,7 @@ ghost use Rattle.std.specs.Prelude.{◌≡◌, ℕ, ◌<◌, ◌⊎◌, ◌↔�
 ghost use Rattle.std.specs.List.{HoldsAt, slice_index_or};
 ghost use Rattle.std.specs.List.Sorted.{IsStrictlySortedBy};
 ghost use Rattle.lw_formula.specs.FiniteModel.{AreDistinct};
-ghost use Rattle.lw_model.specs.Private.OrderedRows.{numbered, IsGapIn, IsGrown, IsPlace};
+ghost use Rattle.lw_model.specs.Private.OrderedRows.{numbered, AddsItem, IsGapIn, IsGrown, IsPlace};
 
 use crate::item::Item;
 use crate::ordered_list::OrderedList;
@@ -93,7 +93,7 @@ impl<T: Item> OrderedRows<T> {
     /// Puts the item at the number; nothing changes where it is there. It fails for want of memory alone, and then all is
     /// as before.
     pub(crate) fn add(&mut self, at: usize, item: &T) -> Result<(), AllocError>
-        ensures added { OnOk result ((a : ℕ) (x : T) → Contains self.new (a, x) ↔ (Contains self.old (a, x) ⊎ ((at ≡ a) × (item.now ≡ x)))) }
+        ensures added { OnOk result (AddsItem self.old self.new at item.now) }
         ensures distinct { OnOk result (AreDistinct self.new) }
         ensures same { OnOk result (Contains self.old (at, item.now) → self.new ≡ self.old) }
         ensures failed { OnErr result (self.new ≡ self.old) }

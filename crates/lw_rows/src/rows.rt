@@ -28,7 +28,8 @@ impl Model for Rows {
 
     ghost view = { λ a. record { width = a.width; rows = rows_of a.width a.count a.words.items; spare = a.spare } };
 
-    ghost invariant = { λ a. (1 ≤ a.width) × (a.width ≤ 64) × (length a.words.items ≡ a.count * a.width) × (length a.words.items + a.spare * a.width ≤ vec_capacity a.words) };
+    ghost invariant = { λ a. (1 ≤ a.width) × (a.width ≤ 64) × (length a.words.items ≡ a.count * a.width)
+        × (length a.words.items + a.spare * a.width ≤ vec_capacity a.words) };
 }
 
 impl Rows {
@@ -151,7 +152,8 @@ impl Rows {
     /// Takes off the rows that were pushed since the mark was taken. They are then spare.
     pub fn release(&mut self, mark: RowMark)
         requires { mark ≤ length self.old.rows }
-        ensures released { self.new ≡ record self.old { rows = take mark self.old.rows; spare = self.old.spare + (length self.old.rows - mark) } }
+        ensures released { self.new
+            ≡ record self.old { rows = take mark self.old.rows; spare = self.old.spare + (length self.old.rows - mark) } }
         ensures region { IsRegion self.new }
     {
         self.words.truncate(mark.count * self.width);

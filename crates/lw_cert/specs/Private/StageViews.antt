@@ -1,5 +1,5 @@
 -- What private contracts see of what the lines so far say.
-use Rattle.std.specs.Prelude.{◌≡◌, ℕ, ◌+◌, ◌-◌, ◌<◌, ◌≤◌, true, false, Option, None, Some, List, [], ◌∷◌, ◌++◌, length, map, reverse, take, drop, ⊤}
+use Rattle.std.specs.Prelude.{◌≡◌, ◌≢◌, ℕ, ◌+◌, ◌-◌, ◌<◌, ◌≤◌, true, false, Option, None, Some, List, [], ◌∷◌, ◌++◌, length, map, reverse, take, drop, ⊤}
 use Rattle.lw_formula.specs.Formula.{Formula}
 use Rattle.lw_formula.specs.Signed.{Signed}
 use Rattle.lw_pool.specs.declared.id.FormId.{FormId}
@@ -24,6 +24,10 @@ use Rattle.lw_cert.specs.Sheet.{Sheet, lines, rows_from, IsRegular}
 use Rattle.lw_cert.specs.CertificateFaults.{IsFine}
 use Rattle.lw_cert.specs.Certificates.{AreRowsOf, IsSheetOf}
 use Rattle.lw_cert.specs.Private.LineMachine.{State, Start, Headed, Chosen, Named, Proving, Sizing, Sized, Listing, Ended, step, run, IsOnTrack, is_modelling}
+
+-- the text isn't the printed text of a formula that has no fault
+abbrev pub IsNoFormula : List ℕ → Type 0
+IsNoFormula text = (a : Formula) → ReadsAs (text_of a) a → text ≢ text_of a
 
 -- the id's formula has this printed text, which has no fault
 pub record IsReadAt (ts : List Formula) (text : List ℕ) (id : FormId) : Type 0 where

@@ -1,5 +1,5 @@
 -- Ordered lists, one for each number, laid end to end.
-use Rattle.std.specs.Prelude.{◌≡◌, ℕ, suc, ◌<◌, ◌≤◌, List, [], ◌∷◌, ◌++◌, length, map}
+use Rattle.std.specs.Prelude.{◌≡◌, ℕ, suc, ◌<◌, ◌≤◌, ◌⊎◌, ◌↔◌, Contains, List, [], ◌∷◌, ◌++◌, length, map}
 use Rattle.std.specs.List.{AllWithin, slice_index_or}
 use Rattle.std.specs.declared.cmp.Ordering.{Ordering}
 use Rattle.std.specs.declared.cmp.Ordering.TheVariants.{Less}
@@ -12,6 +12,10 @@ marked k xs = map (λ x. (k, x)) xs
 abbrev pub numbered : {T : Type 0} → ℕ → List (List T) → List (ℕ × T)
 numbered k [] = []
 numbered k (xs ∷ rows) = marked k xs ++ numbered (suc k) rows
+
+-- the new items are the old ones, and the item with the number
+abbrev pub AddsItem : {T : Type 0} → List (ℕ × T) → List (ℕ × T) → ℕ → T → Type 0
+AddsItem {T} old new k x = (i : ℕ) (y : T) → Contains new (i, y) ↔ (Contains old (i, y) ⊎ ((k ≡ i) × (x ≡ y)))
 
 -- each of the first i items stands before x, and x before each of the others
 pub record IsGapIn {T : Type 0} (cmp : T → T → Ordering) (xs : List T) (x : T) (i : ℕ) : Type 0 where
