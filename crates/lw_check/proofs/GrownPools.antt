@@ -9,7 +9,7 @@ use Rattle.lw_pool.specs.declared.id.FormId.{FormId}
 use Rattle.lw_pool.specs.Region.{IsLive, Grows, signed_at, both_at, parts_at, AreBothBelow, ArePartsBelow}
 use Rattle.lw_proof.specs.Tree.{Tree, Forest, node, none, more, map_forest, EachPrincipal, EachOfAll}
 use Rattle.lw_proof.specs.Pooled.{proof_at, IsProofLive}
-use Rattle.lw_check.specs.Private.ProofWalk.{AreLive}
+use Rattle.lw_check.specs.Private.ItemSets.{AreLive}
 
 pub IsLive_grows : (now ts : List Formula) → Grows now ts → (a : FormId) → IsLive now a → IsLive ts a
 IsLive_grows now ts g a l = omega (arith, g.longer, l)

@@ -3,7 +3,7 @@ use Rattle.std.proofs.Common.{◌≡◌, ℕ, ◌+◌, ◌<◌, take, get_or, Bo
 use Rattle.std.specs.Option.{option_map, IfSome}
 use Rattle.std.proofs.Math.Bool.{or-false, or_assoc, and-false, and-or_distrib_left}
 use Rattle.std.proofs.lemmas.List.{take_more}
-use Rattle.std.proofs.lemmas.List.Elements.{All-nil, All-cons, All-append}
+use Rattle.std.proofs.lemmas.List.Elements.{All-nil, All-cons}
 use Rattle.lw_formula.specs.declared.logic.Logic.{Logic}
 use Rattle.lw_formula.specs.declared.logic.Logic.TheVariants.{K, KT, S4, S5, GL, Grz}
 use Rattle.lw_formula.specs.declared.sign.Sign.TheVariants.{T, F}
@@ -17,9 +17,10 @@ use Rattle.lw_pool.specs.Region.{IsLive, Grows, signed_at, parts_at, ArePartsBel
 use Rattle.lw_proof.specs.System.{trees, same_signed, nu_of}
 use Rattle.lw_proof.specs.Derivation.{side, plus, kept, added, is_nu, is_modal_part}
 use Rattle.lw_proof.proofs.SignedMeaning.{same_signed-Decides}
-use Rattle.lw_check.specs.Private.ProofWalk.{among, set_of, AreLive, kept_by}
+use Rattle.lw_check.specs.Private.ItemSets.{among, set_of, AreLive, AddsAll}
+use Rattle.lw_check.specs.Private.LeftSets.{kept_by}
 use Rattle.lw_check.proofs.GrownPools.{signed_grows, parts_grow}
-use Rattle.lw_check.proofs.IdSets.{set_of-append}
+use Rattle.lw_check.proofs.IdSets.{set_of-append, set_of-added_all}
 
 -- the ids that are kept stand for the signed formulas that are kept
 kept_by_at : (ts : List Formula) (L : Logic) (x : SignedId) (p : Parts SignedId) → map (signed_at ts) (kept_by L x p) ≡ kept_by L (signed_at ts x) (parts_at ts p)
@@ -119,14 +120,15 @@ side_mapped ts a None = refl
 side_mapped ts a (Some b) = refl
 
 -- before the first member: what is added alone
-pub kept_first : (L : Logic) (ts : List Formula) (s : Signed) (a : SignedId) (o : Option SignedId) (left : List SignedId) → left ≡ side a o →
+pub kept_first : (L : Logic) (ts : List Formula) (s : Signed) (a : SignedId) (o : Option SignedId) (left : List SignedId) → AddsAll [] left (side a o) →
     added trees L s (signed_at ts a) ≡ side (signed_at ts a) (option_map (signed_at ts) o) →
     set_of ts left ≡ plus trees (added trees L s (signed_at ts a)) (kept trees L (set_of ts []))
 kept_first L ts s a o left e h = λ i u. at_each u i
   where
     at_each : (u : Signed) → set_of ts left u ≡ plus trees (added trees L s (signed_at ts a)) (kept trees L (set_of ts [])) u
     at_each u =
-        ap (λ (ds : List Signed). among ds u) (ap (map (signed_at ts)) e ∙ side_mapped ts a o ∙ sym h)
+        set_of-added_all ts [] left (side a o) e u
+        ∙ ap (λ (ds : List Signed). among ds u) (side_mapped ts a o ∙ sym h)
         ∙ sym (or-false (among (added trees L s (signed_at ts a)) u))
         ∙ ap (λ b. among (added trees L s (signed_at ts a)) u || b) (sym (kept_none L u))
 
@@ -136,7 +138,7 @@ side_live now a (Some b) l m =
     All-cons (λ (x : SignedId). IsLive now x.form) a (b ∷ []) l
     (All-cons (λ (x : SignedId). IsLive now x.form) b [] m (All-nil (λ (x : SignedId). IsLive now x.form)))
 
-kept_by_live : (now : List Formula) (L : Logic) (x : SignedId) (p : Parts SignedId) → IsLive now x.form → ArePartsBelow (length now) p → AreLive now (kept_by L x p)
+pub kept_by_live : (now : List Formula) (L : Logic) (x : SignedId) (p : Parts SignedId) → IsLive now x.form → ArePartsBelow (length now) p → AreLive now (kept_by L x p)
 kept_by_live now K x (Nu c) l m = side_live now c None m tt
 kept_by_live now KT x (Nu c) l m = side_live now c None m tt
 kept_by_live now S4 x (Nu c) l m = side_live now x None l tt
@@ -146,14 +148,11 @@ kept_by_live now GL x (Nu c) l m = side_live now x (Some c) l m
 kept_by_live now Grz x (Nu c) l m = side_live now x None l tt
 kept_by_live now _ x _ l m = All-nil (λ (y : SignedId). IsLive now y.form)
 
-pub next_live : (now : List Formula) (L : Logic) (left : List SignedId) (x : SignedId) (p : Parts SignedId) → AreLive now left → IsLive now x.form → ArePartsBelow (length now) p → AreLive now (left ++ kept_by L x p)
-next_live now L left x p h l m = All-append (λ (y : SignedId). IsLive now y.form) left (kept_by L x p) h (kept_by_live now L x p l m)
-
 -- one more member
-pub kept_next : (L : Logic) (ts : List Formula) (cs : List Signed) (left xs : List SignedId) (x : SignedId) (p : Parts SignedId) →
-    parts_at ts p ≡ parts_of (signed_at ts x) → set_of ts left ≡ plus trees cs (kept trees L (set_of ts xs)) →
-    set_of ts (left ++ kept_by L x p) ≡ plus trees cs (kept trees L (set_of ts (xs ++ x ∷ [])))
-kept_next L ts cs left xs x p e h = λ i s. at_each s i
+kept_next : (L : Logic) (ts : List Formula) (cs : List Signed) (left new xs : List SignedId) (x : SignedId) (p : Parts SignedId) →
+    parts_at ts p ≡ parts_of (signed_at ts x) → AddsAll left new (kept_by L x p) → set_of ts left ≡ plus trees cs (kept trees L (set_of ts xs)) →
+    set_of ts new ≡ plus trees cs (kept trees L (set_of ts (xs ++ x ∷ [])))
+kept_next L ts cs left new xs x p e adds h = λ i s. at_each s i
   where
     more_set : set_of ts (xs ++ x ∷ []) ≡ (λ s. set_of ts xs s || same_signed (signed_at ts x) s)
     more_set = λ i s. (set_of-append ts xs (x ∷ []) s ∙ ap (λ b. set_of ts xs s || b) (or-false (same_signed (signed_at ts x) s))) i
@@ -164,9 +163,9 @@ kept_next L ts cs left xs x p e h = λ i s. at_each s i
         ∙ ap (λ (q : Parts Signed). among (kept_by L (signed_at ts x) q) s) e
         ∙ sym (kept_one L (signed_at ts x) s)
 
-    at_each : (s : Signed) → set_of ts (left ++ kept_by L x p) s ≡ plus trees cs (kept trees L (set_of ts (xs ++ x ∷ []))) s
+    at_each : (s : Signed) → set_of ts new s ≡ plus trees cs (kept trees L (set_of ts (xs ++ x ∷ []))) s
     at_each s =
-        set_of-append ts left (kept_by L x p) s
+        set_of-added_all ts left new (kept_by L x p) adds s
         ∙ (λ i. h i s || of_x s i)
         ∙ or_assoc (among cs s) (kept trees L (set_of ts xs) s) (kept trees L (same_signed (signed_at ts x)) s)
         ∙ ap (λ b. among cs s || b) (sym (kept_both L (set_of ts xs) (same_signed (signed_at ts x)) s))
@@ -175,11 +174,10 @@ kept_next L ts cs left xs x p e h = λ i s. at_each s i
 -- the same at a step of a loop over a list
 pub kept_more : (L : Logic) (now ts : List Formula) → Grows now ts → (cs : List Signed) (left new items : List SignedId) (i : ℕ) (d : SignedId) (p : Parts SignedId) →
     i < length items → IsLive now (get_or items i d).form → ArePartsBelow (length now) p → parts_at now p ≡ parts_of (signed_at now (get_or items i d)) →
-    new ≡ left ++ kept_by L (get_or items i d) p → set_of ts left ≡ plus trees cs (kept trees L (set_of ts (take i items))) →
+    AddsAll left new (kept_by L (get_or items i d) p) → set_of ts left ≡ plus trees cs (kept trees L (set_of ts (take i items))) →
     set_of ts new ≡ plus trees cs (kept trees L (set_of ts (take (i + 1) items)))
-kept_more L now ts g cs left new items i d p below live parts_live parts added_ids before =
-    ap (set_of ts) added_ids
-    ∙ kept_next L ts cs left (take i items) (get_or items i d) p
+kept_more L now ts g cs left new items i d p below live parts_live parts adds before =
+    kept_next L ts cs left new (take i items) (get_or items i d) p
     (parts_grow now ts g p parts_live ∙ parts ∙ ap parts_of (sym (signed_grows now ts g (get_or items i d) live)))
-    before
+    adds before
     ∙ ap (λ (xs : List SignedId). plus trees cs (kept trees L (set_of ts xs))) (sym (take_more items i d below))

@@ -25,7 +25,8 @@ use Rattle.lw_check.specs.declared.verdict.Verdict.TheVariants.{Accepted, Reject
 use Rattle.lw_check.specs.declared.walked.Walked.{Walked}
 use Rattle.lw_check.specs.declared.walked.Walked.TheVariants.{Through, Broken}
 use Rattle.lw_check.specs.Judgement.{verdict_of, IsVerdict, IsAccepted}
-use Rattle.lw_check.specs.Private.ProofWalk.{set_of, AreCuts, outcome_of, Tells}
+use Rattle.lw_check.specs.Private.ItemSets.{set_of}
+use Rattle.lw_check.specs.Private.ProofWalk.{AreCuts, outcome_of, Tells}
 use Rattle.lw_check.proofs.GrownPools.{Grows-refl, signed_grows, proof_grows, EachPrincipal-weaker}
 use Rattle.lw_check.proofs.IdSets.{Decides_alike}
 

@@ -16,7 +16,9 @@ use Rattle.lw_proof.specs.Break.{reason, or_else, at_step, break_from, breaks_fr
 use Rattle.lw_proof.specs.Pooled.{proof_at, IsProofLive}
 use Rattle.lw_check.specs.declared.walked.Walked.{Walked}
 use Rattle.lw_check.specs.declared.walked.Walked.TheVariants.{Through, Broken}
-use Rattle.lw_check.specs.Private.ProofWalk.{among, set_of, AreLive, AreCuts, left_by, outcome_of, Tells, TellsAll}
+use Rattle.lw_check.specs.Private.ItemSets.{among, set_of, AreLive}
+use Rattle.lw_check.specs.Private.LeftSets.{left_by, Leaves}
+use Rattle.lw_check.specs.Private.ProofWalk.{AreCuts, TellsReason, outcome_of, Tells, TellsAll}
 use Rattle.lw_check.proofs.GrownPools.{signed_grows, listed_grows, parts_grow, Grows-trans}
 use Rattle.lw_proof.proofs.FirstSubproofs.{each_sub, each_first, count_mapped, forest_mapped, lines_mapped, lines_first, no_member, one_member, two_members}
 
@@ -41,12 +43,6 @@ broken_step cuts L ts X (node r x f) n why e =
     ap (λ (k : ℕ). or_else (at_step n (reason trees cuts L X r (signed_at ts x) k)) (breaks_from trees cuts L (premises trees L r (signed_at ts x) (parts_of (signed_at ts x)) X) (suc n) (map_forest (signed_at ts) f))) (count_mapped (signed_at ts) f)
     ∙ ap (λ (o : Option Why). or_else (at_step n o) (breaks_from trees cuts L (premises trees L r (signed_at ts x) (parts_of (signed_at ts x)) X) (suc n) (map_forest (signed_at ts) f))) (sym e)
 
--- what is told of the first step's rule, for all that may be cut
-abbrev pub TellsReason : Logic → List Formula → List Bool → List SignedId → Tree SignedId → Option Why → Type 0
-TellsReason L now marks xs t o =
-    (cuts : SignedSet) → is_marked marks (principal_of t).form.0 ≡ cuts (signed_at now (principal_of t)) →
-    o ≡ reason trees cuts L (set_of now xs) (rule_of t) (signed_at now (principal_of t)) (length (subs_of t))
-
 module _ (L : Logic) (now : List Formula) (marks : List Bool) (xs : List SignedId) (t : Tree SignedId) (live : AreLive now xs) (proof_live : IsProofLive now t) where
   first_live : IsLive now (principal_of t).form
   first_live = each_first (λ (s : SignedId). IsLive now s.form) t proof_live
@@ -68,7 +64,7 @@ module _ (L : Logic) (now : List Formula) (marks : List Bool) (xs : List SignedI
   -- the step keeps its rule, and the subproofs are to close what the components p leave
   pub tells_kept : (r : Rule) (x : SignedId) → r ≡ rule_of t → x ≡ principal_of t → (later : List Formula) (p : Parts SignedId) (step next : ℕ) (outcome : Walked) → Grows now later →
       TellsReason L now marks xs t None → ArePartsBelow (length now) p →
-      ((K : Logic) (X : SignedSet) → premises trees K r (signed_at now x) (parts_of (signed_at now x)) X ≡ left_by K (signed_at now x) (parts_at now p) X) →
+      Leaves r (signed_at now x) (parts_at now p) →
       ((n : ℕ) → step ≡ min n 18446744073709551615 → next ≡ min (suc n) 18446744073709551615) →
       TellsAll L later marks (λ ts. left_by L (signed_at ts (principal_of t)) (parts_at ts p) (set_of ts xs)) t next outcome →
       Tells L later marks (λ ts. set_of ts xs) t step outcome

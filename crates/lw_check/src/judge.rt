@@ -1,13 +1,12 @@
-ghost use Rattle.std.specs.Prelude.{◌≡◌, ◌↔◌, ◌<◌, ◌∷◌, [], List, length, slice_get, IfOk, OnOk};
-ghost use Rattle.lw_formula.specs.Formula.{Formula};
+ghost use Rattle.std.specs.Prelude.{◌≡◌, ◌↔◌, length, IfOk, OnOk};
 ghost use Rattle.lw_formula.specs.Validity.{Valid};
 ghost use Rattle.lw_pool.specs.Region.{IsLive, Grows, tree_at, AreBothBelow};
-ghost use Rattle.lw_proof.specs.Tree.{subs_of, lines};
-ghost use Rattle.lw_proof.specs.System.{trees};
-ghost use Rattle.lw_proof.specs.Derivation.{plus, Proves};
+ghost use Rattle.lw_proof.specs.Tree.{subs_of};
+ghost use Rattle.lw_proof.specs.Derivation.{Proves};
 ghost use Rattle.lw_proof.specs.Pooled.{proof_at, IsProofLive};
 ghost use Rattle.lw_check.specs.Judgement.{IsVerdict, IsAccepted};
-ghost use Rattle.lw_check.specs.Private.ProofWalk.{set_of, side_at, AreLive, Tells, TellsAll};
+ghost use Rattle.lw_check.specs.Private.ItemSets.{set_of, AreLive, with_side, with_each};
+ghost use Rattle.lw_check.specs.Private.ProofWalk.{Tells, TellsAll};
 
 use crate::premise::{add_side, left, stepped};
 use crate::step::refusal;
@@ -15,12 +14,13 @@ use crate::verdict::Verdict;
 use crate::walked::Walked;
 use lw_formula::{Logic, Parts, Sign};
 use lw_pool::{FormId, Pool, SignedId};
-use lw_proof::Proof;
-use std::alloc::AllocError;
+use lw_proof::{Proof, SignedIds};
+use std::alloc::{AllocError, Global};
 
 /// Whether the proof proves the goal in the logic, and else the first step that breaks its rule, with the first reason.
 /// It fails for want of memory alone. After every answer the pool has what it had, and perhaps formulas above.
 pub fn check(
+    alloc: Global,
     pool: &mut Pool,
     logic: Logic,
     goal: FormId,
@@ -34,8 +34,8 @@ pub fn check(
     ensures grows { Grows pool.old pool.new }
 {
     let cuts = pool.subformula_table(goal)?;
-    let mut items = Vec::new(*cuts.allocator());
-    items.push(SignedId {
+    let mut items = SignedIds::new(alloc);
+    items.add(SignedId {
         sign: Sign::F,
         form: goal,
     })?;
@@ -50,14 +50,14 @@ fn walk(
     pool: &mut Pool,
     logic: Logic,
     cuts: &[bool],
-    items: &mut Vec<SignedId>,
+    items: &mut SignedIds,
     proof: &Proof,
     step: usize,
 ) -> Result<Walked, AllocError>
-    requires items { AreLive pool.old items.old.items }
+    requires items { AreLive pool.old items.old }
     requires proof { IsProofLive pool.old proof.now }
-    ensures told { IfOk result (Tells logic pool.new cuts.now (λ ts. set_of ts items.old.items) proof.now step) }
-    ensures same { OnOk result (items.new.items ≡ items.old.items) }
+    ensures told { IfOk result (Tells logic pool.new cuts.now (λ ts. set_of ts items.old) proof.now step) }
+    ensures same { OnOk result (items.new ≡ items.old) }
     ensures grows { Grows pool.old pool.new }
 {
     if let Some(why) = refusal(pool, logic, cuts, items, proof) {
@@ -85,18 +85,18 @@ fn split(
     pool: &mut Pool,
     logic: Logic,
     cuts: &[bool],
-    items: &mut Vec<SignedId>,
+    items: &mut SignedIds,
     sides: ((SignedId, Option<SignedId>), (SignedId, Option<SignedId>)),
     proof: &Proof,
     step: usize,
 ) -> Result<Walked, AllocError>
-    requires items { AreLive pool.old items.old.items }
+    requires items { AreLive pool.old items.old }
     requires one { AreBothBelow (length pool.old) sides.0 }
     requires other { AreBothBelow (length pool.old) sides.1 }
     requires proof { IsProofLive pool.old proof.now }
     requires count { length (subs_of proof.now) ≡ 2 }
-    ensures told { IfOk result (TellsAll logic pool.new cuts.now (λ ts. plus trees (side_at ts sides.0) (set_of ts items.old.items) ∷ plus trees (side_at ts sides.1) (set_of ts items.old.items) ∷ []) proof.now step) }
-    ensures same { OnOk result (items.new.items ≡ items.old.items) }
+    ensures told { IfOk result (TellsAll logic pool.new cuts.now (with_each items.old sides) proof.now step) }
+    ensures same { OnOk result (items.new ≡ items.old) }
     ensures grows { Grows pool.old pool.new }
 {
     let (one, other) = sides;
@@ -114,21 +114,21 @@ fn extended(
     pool: &mut Pool,
     logic: Logic,
     cuts: &[bool],
-    items: &mut Vec<SignedId>,
+    items: &mut SignedIds,
     side: (SignedId, Option<SignedId>),
     proof: &Proof,
     step: usize,
 ) -> Result<Walked, AllocError>
-    requires items { AreLive pool.old items.old.items }
+    requires items { AreLive pool.old items.old }
     requires side { AreBothBelow (length pool.old) side }
     requires proof { IsProofLive pool.old proof.now }
-    ensures told { IfOk result (Tells logic pool.new cuts.now (λ ts. plus trees (side_at ts side) (set_of ts items.old.items)) proof.now step) }
-    ensures same { OnOk result (items.new.items ≡ items.old.items) }
+    ensures told { IfOk result (Tells logic pool.new cuts.now (with_side items.old side) proof.now step) }
+    ensures same { OnOk result (items.new ≡ items.old) }
     ensures grows { Grows pool.old pool.new }
 {
-    let count = items.len();
+    let count = items.count();
     add_side(items, side)?;
     let walked = walk(pool, logic, cuts, items, proof, step)?;
-    items.truncate(count);
+    items.cut(count);
     Ok(walked)
 }

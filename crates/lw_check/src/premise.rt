@@ -1,18 +1,16 @@
-ghost use Rattle.std.specs.Prelude.{◌≡◌, ◌∷◌, ◌++◌, length, IsTrue, IfOk, OnOk, option_map, IfSome, All, ℕ, ◌<◌, ◌||◌, List, option_to_list};
-ghost use Rattle.lw_formula.specs.Components.{parts_of, guard_of};
-ghost use Rattle.lw_formula.specs.Formula.{Formula};
-ghost use Rattle.lw_formula.specs.Signed.{Signed, SignedSet};
-ghost use Rattle.lw_pool.specs.Region.{IsLive, Grows, signed_at, parts_at, AreBothBelow, ArePartsBelow};
+ghost use Rattle.std.specs.Prelude.{◌≡◌, length, IsTrue, IfOk, OnOk, IfSome, option_map};
+ghost use Rattle.lw_formula.specs.Components.{guard_of};
+ghost use Rattle.lw_pool.specs.Region.{IsLive, Grows, signed_at, parts_at, ArePartsBelow};
 ghost use Rattle.lw_proof.specs.System.{trees};
-ghost use Rattle.lw_proof.specs.Derivation.{side, plus, kept, added, only};
-ghost use Rattle.lw_proof.specs.Derivation as derivation;
+ghost use Rattle.lw_proof.specs.Derivation.{side};
 ghost use Rattle.lw_proof.specs.Break.{fits, arity};
-ghost use Rattle.lw_check.specs.Private.ProofWalk.{set_of, side_at, AreLive, count_left, left_by, kept_by};
+ghost use Rattle.lw_check.specs.Private.ItemSets.{AreLive, AddsAll};
+ghost use Rattle.lw_check.specs.Private.LeftSets.{count_left, Leaves, kept_by, IsCompanion, IsStepSet};
 
 use crate::step::flipped;
 use lw_formula::{Logic, Parts, Sign};
 use lw_pool::{Node, Pool, SignedId};
-use lw_proof::Rule;
+use lw_proof::{Rule, SignedIds};
 use std::alloc::AllocError;
 
 /// What the step leaves to be closed, as components: for a cut the formula under both signs, else what the item comes
@@ -20,51 +18,51 @@ use std::alloc::AllocError;
 pub(crate) fn left(pool: &Pool, rule: Rule, item: SignedId) -> Parts<SignedId>
     requires live { IsLive pool.now item.form }
     requires fits { IsTrue (fits trees rule (signed_at pool.now item)) }
-    ensures sets { (L : Logic) (X : SignedSet) → derivation.premises trees L rule (signed_at pool.now item) (parts_of (signed_at pool.now item)) X ≡ left_by L (signed_at pool.now item) (parts_at pool.now result) X }
+    ensures sets { Leaves rule (signed_at pool.now item) (parts_at pool.now result) }
     ensures live { ArePartsBelow (length pool.now) result }
     ensures count { count_left result ≡ arity rule }
 {
     match rule {
         Rule::Close | Rule::Absurd => Parts::Nothing,
+        Rule::One | Rule::Two | Rule::Refl | Rule::Step => pool.parts(item),
         Rule::Cut => Parts::Two((item, None), (flipped(item), None)),
-        _ => pool.parts(item),
     }
 }
 
-/// Puts one side behind the items.
+/// Adds one side to the items.
 pub(crate) fn add_side(
-    items: &mut Vec<SignedId>,
+    items: &mut SignedIds,
     added: (SignedId, Option<SignedId>),
 ) -> Result<(), AllocError>
-    ensures items { OnOk result (items.new.items ≡ items.old.items ++ side added.0 added.1) }
+    ensures { OnOk result (AddsAll items.old items.new (side added.0 added.1)) }
 {
     let (first, second) = added;
-    items.push(first)?;
-    if let Some(second) = second {
-        items.push(second)?;
+    items.add(first)?;
+    match second {
+        Some(second) => items.add(second),
+        None => Ok(()),
     }
-    Ok(())
 }
 
 /// The set that the step on the π `item`, whose component is `part`, leaves to be closed.
 pub(crate) fn stepped(
     pool: &mut Pool,
     logic: Logic,
-    items: &Vec<SignedId>,
+    items: &SignedIds,
     item: SignedId,
     part: SignedId,
-) -> Result<Vec<SignedId>, AllocError>
-    requires items { AreLive pool.old items.now.items }
+) -> Result<SignedIds, AllocError>
+    requires items { AreLive pool.old items.now }
     requires item { IsLive pool.old item.form }
     requires part { IsLive pool.old part.form }
-    ensures set { IfOk result (λ v. (ts : List Formula) → Grows pool.new ts → set_of ts v.items ≡ plus trees (added trees logic (signed_at ts item) (signed_at ts part)) (kept trees logic (set_of ts items.now.items))) }
-    ensures live { IfOk result (λ v. AreLive pool.new v.items) }
+    ensures set { IfOk result (IsStepSet logic pool.new item part items.now) }
+    ensures live { IfOk result (AreLive pool.new) }
     ensures grows { Grows pool.old pool.new }
 {
-    let mut left = Vec::new(*items.allocator());
+    let mut left = SignedIds::new(items.allocator());
     let companion = companion(pool, logic, item)?;
     add_side(&mut left, (part, companion))?;
-    for other in items {
+    for other in items.as_slice() {
         keep(&mut left, logic, *other, pool.parts(*other))?;
     }
     Ok(left)
@@ -73,14 +71,14 @@ pub(crate) fn stepped(
 /// What a step adds beside the component of its π.
 fn companion(pool: &mut Pool, logic: Logic, item: SignedId) -> Result<Option<SignedId>, AllocError>
     requires { IsLive pool.old item.form }
-    ensures added { IfOk result (λ o. (ts : List Formula) (c : Signed) → Grows pool.new ts → added trees logic (signed_at ts item) c ≡ side c (option_map (signed_at ts) o)) }
+    ensures added { IfOk result (IsCompanion logic pool.new item) }
     ensures live { IfOk result (λ o. IfSome o (λ x. IsLive pool.new x.form)) }
     ensures grows { Grows pool.old pool.new }
 {
     match logic {
+        Logic::K | Logic::KT | Logic::S4 | Logic::S5 => Ok(None),
         Logic::GL => Ok(Some(flipped(item))),
         Logic::Grz => guard(pool, item),
-        _ => Ok(None),
     }
 }
 
@@ -115,25 +113,24 @@ fn guard(pool: &mut Pool, item: SignedId) -> Result<Option<SignedId>, AllocError
     }
 }
 
-/// Puts what a step keeps on account of one item, which comes to these parts, behind the others.
+/// Adds what a step keeps on account of one item, which comes to these parts.
 fn keep(
-    left: &mut Vec<SignedId>,
+    left: &mut SignedIds,
     logic: Logic,
     item: SignedId,
     parts: Parts<SignedId>,
 ) -> Result<(), AllocError>
-    ensures { OnOk result (left.new.items ≡ left.old.items ++ kept_by logic item parts) }
+    ensures { OnOk result (AddsAll left.old left.new (kept_by logic item parts)) }
 {
     match (logic, parts) {
-        (Logic::K | Logic::KT, Parts::Nu(part)) => left.push(part)?,
+        (Logic::K | Logic::KT, Parts::Nu(part)) => left.add(part),
         (Logic::S4 | Logic::S5 | Logic::Grz, Parts::Nu(_)) | (Logic::S5, Parts::Pi(_)) => {
-            left.push(item)?
+            left.add(item)
         }
         (Logic::GL, Parts::Nu(part)) => {
-            left.push(item)?;
-            left.push(part)?;
+            left.add(item)?;
+            left.add(part)
         }
-        _ => {}
+        (Logic::K | Logic::KT | Logic::S4 | Logic::S5 | Logic::GL | Logic::Grz, _) => Ok(()),
     }
-    Ok(())
 }

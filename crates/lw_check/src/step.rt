@@ -8,11 +8,12 @@ ghost use Rattle.lw_proof.specs.Tree.{rule_of, principal_of, subs_of};
 ghost use Rattle.lw_proof.specs.System.{trees};
 ghost use Rattle.lw_proof.specs.Break as breaks;
 ghost use Rattle.lw_proof.specs.Pooled.{IsProofLive};
-ghost use Rattle.lw_check.specs.Private.ProofWalk.{set_of, AreLive};
+ghost use Rattle.lw_check.specs.Private.ItemSets.{set_of, AreLive};
+ghost use Rattle.lw_check.specs.Private.ProofWalk.{TellsReason};
 
 use lw_formula::{Logic, Parts, Sign};
 use lw_pool::{FormId, Node, Pool, SignedId};
-use lw_proof::{Proof, Rule, Why};
+use lw_proof::{Proof, Rule, SignedIds, Why, has_cut, has_refl};
 
 /// Why the first step of the proof breaks its rule, where the items are to be closed and the marked formulas may be
 /// cut.
@@ -20,12 +21,12 @@ pub(crate) fn refusal(
     pool: &Pool,
     logic: Logic,
     cuts: &[bool],
-    items: &[SignedId],
+    items: &SignedIds,
     proof: &Proof,
 ) -> Option<Why>
     requires items { AreLive pool.now items.now }
     requires proof { IsProofLive pool.now proof.now }
-    ensures reason { (C : SignedSet) → region.is_marked cuts.now (principal_of proof.now).form.0 ≡ C (signed_at pool.now (principal_of proof.now)) → result ≡ breaks.reason trees C logic (set_of pool.now items.now) (rule_of proof.now) (signed_at pool.now (principal_of proof.now)) (length (subs_of proof.now)) }
+    ensures reason { TellsReason logic pool.now cuts.now items.now proof.now result }
     ensures fits { IfNone result (IsTrue (breaks.fits trees (rule_of proof.now) (signed_at pool.now (principal_of proof.now)))) }
     ensures arity { IfNone result (length (subs_of proof.now) ≡ breaks.arity (rule_of proof.now)) }
 {
@@ -36,7 +37,7 @@ pub(crate) fn refusal(
     if !fits(pool, rule, item) {
         return Some(Why::Shape);
     }
-    if proof.count() != arity(rule) {
+    if proof.count() != rule.arity() {
         return Some(Why::Arity);
     }
     if !present(pool, items, rule, item) {
@@ -53,9 +54,9 @@ fn in_logic(logic: Logic, rule: Rule) -> bool
     ensures { result ≡ breaks.in_logic logic rule }
 {
     match rule {
-        Rule::Refl => !matches!(logic, Logic::K | Logic::GL),
-        Rule::Cut => matches!(logic, Logic::S5),
-        _ => true,
+        Rule::Close | Rule::Absurd | Rule::One | Rule::Two | Rule::Step => true,
+        Rule::Refl => has_refl(logic),
+        Rule::Cut => has_cut(logic),
     }
 }
 
@@ -89,38 +90,27 @@ fn is_absurd(pool: &Pool, item: SignedId) -> bool
     )
 }
 
-/// How many premises the rule has.
-fn arity(rule: Rule) -> usize
-    ensures { result ≡ breaks.arity rule }
-{
-    match rule {
-        Rule::Close | Rule::Absurd => 0,
-        Rule::One | Rule::Refl | Rule::Step => 1,
-        Rule::Two | Rule::Cut => 2,
-    }
-}
-
 /// Whether the items have what must be there.
-fn present(pool: &Pool, items: &[SignedId], rule: Rule, item: SignedId) -> bool
+fn present(pool: &Pool, items: &SignedIds, rule: Rule, item: SignedId) -> bool
     requires items { AreLive pool.now items.now }
     requires item { IsLive pool.now item.form }
     ensures { result ≡ breaks.present trees (set_of pool.now items.now) rule (signed_at pool.now item) }
 {
     match rule {
         Rule::Close => has(pool, items, item) && has(pool, items, flipped(item)),
+        Rule::Absurd | Rule::One | Rule::Two | Rule::Refl | Rule::Step => has(pool, items, item),
         Rule::Cut => true,
-        _ => has(pool, items, item),
     }
 }
 
 /// Whether the item is one of these. Ids of one pool are equal exactly where their formulas are.
-fn has(pool: &Pool, items: &[SignedId], item: SignedId) -> bool
+fn has(pool: &Pool, items: &SignedIds, item: SignedId) -> bool
     requires items { AreLive pool.now items.now }
     requires item { IsLive pool.now item.form }
     ensures { result ≡ set_of pool.now items.now (signed_at pool.now item) }
 {
     prove!(item.form.0 < pool.count());
-    items.contains(&item)
+    items.has(item)
 }
 
 /// The same formula under the other sign.
@@ -138,8 +128,8 @@ fn allowed(cuts: &[bool], rule: Rule, form: FormId) -> bool
     ensures { (C : SignedSet) (s : Signed) → region.is_marked cuts.now form.0 ≡ C s → result ≡ breaks.in_goal trees C rule s }
 {
     match rule {
+        Rule::Close | Rule::Absurd | Rule::One | Rule::Two | Rule::Refl | Rule::Step => true,
         Rule::Cut => is_marked(cuts, form),
-        _ => true,
     }
 }
 

@@ -84,6 +84,7 @@ fn fork(
 #[tactic(auto, using(crate::proofs::GrownPools::IsLive_grows, crate::proofs::GrownPools::IsProofLive_grows))]
 fn assert_verdicts(
     rt: &impl Abort,
+    alloc: Global,
     pool: &mut Pool,
     goal: FormId,
     proof: &Proof,
@@ -94,7 +95,7 @@ fn assert_verdicts(
     ensures { length pool.old ≤ length pool.new }
 {
     'each: for i in 0..6 {
-        let verdict = check(pool, LOGICS[i], goal, proof)?;
+        let verdict = check(alloc, pool, LOGICS[i], goal, proof)?;
         assert_eq!(rt; verdict, verdicts[i], "in logic {i}");
     }
     Ok(())
@@ -154,7 +155,7 @@ fn components_that_a_step_keeps_close_the_axiom_of_k(rt: HostRuntime) -> Result<
         Verdict::Accepted,
         broken(4, Why::Missing),
     ];
-    assert_verdicts(&rt, &mut pool, goal, &proof, verdicts)?;
+    assert_verdicts(&rt, alloc, &mut pool, goal, &proof, verdicts)?;
     Ok(())
 }
 
@@ -177,7 +178,7 @@ fn boxes_that_a_step_keeps_close_the_axiom_of_k(rt: HostRuntime) -> Result<(), F
         broken(4, Why::Logic),
         Verdict::Accepted,
     ];
-    assert_verdicts(&rt, &mut pool, goal, &proof, verdicts)?;
+    assert_verdicts(&rt, alloc, &mut pool, goal, &proof, verdicts)?;
     Ok(())
 }
 
@@ -222,7 +223,7 @@ fn loebs_formula_has_this_proof_in_gl_alone(rt: HostRuntime) -> Result<(), Fail>
         Verdict::Accepted,
         broken(3, Why::Missing),
     ];
-    assert_verdicts(&rt, &mut pool, goal, &proof, verdicts)?;
+    assert_verdicts(&rt, alloc, &mut pool, goal, &proof, verdicts)?;
     Ok(())
 }
 
@@ -235,7 +236,7 @@ fn the_steps_of_an_earlier_branch_are_counted(rt: HostRuntime) -> Result<(), Fai
     let goal = loeb(&mut pool, alloc)?;
     assert_eq!(&rt; pool.count(), 5);
     let proof = proof_of_loeb(alloc, 3)?;
-    let verdict = check(&mut pool, Logic::GL, goal, &proof)?;
+    let verdict = check(alloc, &mut pool, Logic::GL, goal, &proof)?;
     assert_eq!(&rt; verdict, broken(5, Why::Missing));
     Ok(())
 }
@@ -274,7 +275,7 @@ fn a_cut_on_a_subformula_is_a_rule_of_s5_alone(rt: HostRuntime) -> Result<(), Fa
     let proof = proof_of_symmetry(alloc)?;
     let mut verdicts = [broken(2, Why::Logic); 6];
     verdicts[3] = Verdict::Accepted;
-    assert_verdicts(&rt, &mut pool, goal, &proof, verdicts)?;
+    assert_verdicts(&rt, alloc, &mut pool, goal, &proof, verdicts)?;
     Ok(())
 }
 
@@ -291,7 +292,7 @@ fn a_cut_on_another_formula_is_none(rt: HostRuntime) -> Result<(), Fail> {
     let proof = fork(alloc, Rule::Cut, Sign::T, 3, sides)?;
     let mut verdicts = [broken(1, Why::Logic); 6];
     verdicts[3] = broken(1, Why::Goal);
-    assert_verdicts(&rt, &mut pool, goal, &proof, verdicts)?;
+    assert_verdicts(&rt, alloc, &mut pool, goal, &proof, verdicts)?;
     Ok(())
 }
 
@@ -303,8 +304,22 @@ fn a_subproof_too_many_is_told_before_what_is_missing(rt: HostRuntime) -> Result
     let goal = symmetry(&mut pool, alloc)?;
     assert_eq!(&rt; pool.count(), 5);
     let close = last(alloc, Rule::Close, Sign::T, 0);
-    assert_verdicts(&rt, &mut pool, goal, &close, [broken(1, Why::Missing); 6])?;
+    assert_verdicts(
+        &rt,
+        alloc,
+        &mut pool,
+        goal,
+        &close,
+        [broken(1, Why::Missing); 6],
+    )?;
     let longer = over(alloc, Rule::Close, Sign::T, 0, close)?;
-    assert_verdicts(&rt, &mut pool, goal, &longer, [broken(1, Why::Arity); 6])?;
+    assert_verdicts(
+        &rt,
+        alloc,
+        &mut pool,
+        goal,
+        &longer,
+        [broken(1, Why::Arity); 6],
+    )?;
     Ok(())
 }

@@ -31,7 +31,7 @@ fn finding_of(alloc: Global, bytes: &[u8]) -> Result<Finding, AllocError>
     }
     let mut pool = Pool::new(alloc);
     match read_certificate(alloc, &mut pool, bytes) {
-        Ok(certificate) => judged(&mut pool, &certificate),
+        Ok(certificate) => judged(alloc, &mut pool, &certificate),
         Err(fault) => refusal(&fault),
     }
 }
@@ -48,20 +48,21 @@ fn refusal(fault: &CertFault) -> Result<Finding, AllocError>
 }
 
 // What is to be said of the certificate.
-fn judged(pool: &mut Pool, certificate: &Certificate) -> Result<Finding, AllocError>
+fn judged(alloc: Global, pool: &mut Pool, certificate: &Certificate) -> Result<Finding, AllocError>
     requires { (sheet : Sheet) × IsSheetOf pool.old certificate.now sheet }
     ensures { (sheet : Sheet) → IsSheetOf pool.old certificate.now sheet → IfOk result (IsJudged sheet.logic sheet.formula sheet.content) }
 {
     let logic = certificate.logic;
     let formula = certificate.formula;
     match &certificate.body {
-        Body::Proved(proof) => proof_finding(pool, logic, formula, proof),
+        Body::Proved(proof) => proof_finding(alloc, pool, logic, formula, proof),
         Body::Refuted(model, world) => model_finding(pool, logic, formula, model, *world),
     }
 }
 
 // What is to be said of the proof.
 fn proof_finding(
+    alloc: Global,
     pool: &mut Pool,
     logic: Logic,
     goal: FormId,
@@ -71,7 +72,7 @@ fn proof_finding(
     requires proof { IsProofLive pool.old proof.now }
     ensures { IfOk result (IsJudged logic (tree_at pool.old goal) (Steps (proof_at pool.old proof.now))) }
 {
-    match check(pool, logic, goal, proof)? {
+    match check(alloc, pool, logic, goal, proof)? {
         Verdict::Accepted => Ok(Finding::Accepted),
         Verdict::Rejected { step, .. } => Ok(Finding::RejectedStep(step)),
     }

@@ -1,0 +1,64 @@
+-- What a step leaves to be closed, by the components of its principal.
+use Rattle.std.specs.Prelude.{◌≡◌, ℕ, List, [], ◌∷◌, Option, option_map}
+use Rattle.lw_formula.specs.declared.logic.Logic.{Logic}
+use Rattle.lw_formula.specs.declared.logic.Logic.TheVariants.{K, KT, S4, S5, GL, Grz}
+use Rattle.lw_formula.specs.declared.parts.Parts.{Parts}
+use Rattle.lw_formula.specs.declared.parts.Parts.TheVariants.{Nothing, One, Two, Nu, Pi}
+use Rattle.lw_formula.specs.Formula.{Formula}
+use Rattle.lw_formula.specs.Signed.{Signed, SignedSet}
+use Rattle.lw_formula.specs.Components.{parts_of}
+use Rattle.lw_pool.specs.declared.id.SignedId.{SignedId}
+use Rattle.lw_pool.specs.Region.{Grows, signed_at}
+use Rattle.lw_proof.specs.declared.rule.Rule.{Rule}
+use Rattle.lw_proof.specs.System.{trees}
+use Rattle.lw_proof.specs.Derivation.{side, plus, kept, added, premises}
+use Rattle.lw_check.specs.Private.ItemSets.{set_of}
+
+-- how many sets are left by components
+abbrev pub count_left : {I : Type 0} → Parts I → ℕ
+count_left Nothing = 0
+count_left (One c d) = 1
+count_left (Two a b) = 2
+count_left (Nu c) = 1
+count_left (Pi c) = 1
+
+-- the sets that are left by the components p of s
+abbrev pub left_by : Logic → Signed → Parts Signed → SignedSet → List SignedSet
+left_by L s Nothing X = []
+left_by L s (One c d) X = plus trees (side c d) X ∷ []
+left_by L s (Two a b) X = plus trees (side a.0 a.1) X ∷ plus trees (side b.0 b.1) X ∷ []
+left_by L s (Nu c) X = plus trees (c ∷ []) X ∷ []
+left_by L s (Pi c) X = plus trees (added trees L s c) (kept trees L X) ∷ []
+
+-- the components p leave what the rule on s leaves, in each logic and of each set
+abbrev pub Leaves : Rule → Signed → Parts Signed → Type 0
+Leaves r s p = (L : Logic) (X : SignedSet) → premises trees L r s (parts_of s) X ≡ left_by L s p X
+
+-- what a step keeps on account of one member of a set, which comes to p
+abbrev pub kept_by : {I : Type 0} → Logic → I → Parts I → List I
+kept_by K s (Nu c) = c ∷ []
+kept_by K s _ = []
+kept_by KT s (Nu c) = c ∷ []
+kept_by KT s _ = []
+kept_by S4 s (Nu c) = s ∷ []
+kept_by S4 s _ = []
+kept_by S5 s (Nu c) = s ∷ []
+kept_by S5 s (Pi c) = s ∷ []
+kept_by S5 s _ = []
+kept_by GL s (Nu c) = s ∷ c ∷ []
+kept_by GL s _ = []
+kept_by Grz s (Nu c) = s ∷ []
+kept_by Grz s _ = []
+
+-- what the step on x adds beside a component is this, if anything
+abbrev pub IsCompanion : Logic → List Formula → SignedId → Option SignedId → Type 0
+IsCompanion L now x o =
+    (ts : List Formula) (c : Signed) → Grows now ts → added trees L (signed_at ts x) c ≡ side c (option_map (signed_at ts) o)
+
+-- what the step on the π x, whose component is c, leaves of the set of these ids
+abbrev pub step_set : Logic → SignedId → SignedId → List SignedId → List Formula → SignedSet
+step_set L x c xs ts = plus trees (added trees L (signed_at ts x) (signed_at ts c)) (kept trees L (set_of ts xs))
+
+-- the second list stands for what the step on the π x, whose component is c, leaves of the first
+abbrev pub IsStepSet : Logic → List Formula → SignedId → SignedId → List SignedId → List SignedId → Type 0
+IsStepSet L now x c xs ys = (ts : List Formula) → Grows now ts → set_of ts ys ≡ step_set L x c xs ts
