@@ -1,5 +1,4 @@
-ghost use Rattle.std.specs.Prelude.{◌≡◌, length, IsTrue, IfOk, OnOk, IfSome, option_map};
-ghost use Rattle.lw_formula.specs.Components.{guard_of};
+ghost use Rattle.std.specs.Prelude.{◌≡◌, length, IsTrue, IfOk, OnOk, IfSome};
 ghost use Rattle.lw_pool.specs.Region.{IsLive, Grows, signed_at, parts_at, ArePartsBelow};
 ghost use Rattle.lw_proof.specs.System.{trees};
 ghost use Rattle.lw_proof.specs.Derivation.{side};
@@ -7,9 +6,8 @@ ghost use Rattle.lw_proof.specs.Break.{fits, arity};
 ghost use Rattle.lw_check.specs.Private.ItemSets.{AreLive, AddsAll};
 ghost use Rattle.lw_check.specs.Private.LeftSets.{count_left, Leaves, kept_by, IsCompanion, IsStepSet};
 
-use crate::step::flipped;
-use lw_formula::{Logic, Parts, Sign};
-use lw_pool::{Node, Pool, SignedId};
+use lw_formula::{Logic, Parts};
+use lw_pool::{Pool, SignedId};
 use lw_proof::{Rule, SignedIds};
 use std::alloc::AllocError;
 
@@ -25,7 +23,7 @@ pub(crate) fn left(pool: &Pool, rule: Rule, item: SignedId) -> Parts<SignedId>
     match rule {
         Rule::Close | Rule::Absurd => Parts::Nothing,
         Rule::One | Rule::Two | Rule::Refl | Rule::Step => pool.parts(item),
-        Rule::Cut => Parts::Two((item, None), (flipped(item), None)),
+        Rule::Cut => Parts::Two((item, None), (item.flip(), None)),
     }
 }
 
@@ -77,39 +75,8 @@ fn companion(pool: &mut Pool, logic: Logic, item: SignedId) -> Result<Option<Sig
 {
     match logic {
         Logic::K | Logic::KT | Logic::S4 | Logic::S5 => Ok(None),
-        Logic::GL => Ok(Some(flipped(item))),
-        Logic::Grz => guard(pool, item),
-    }
-}
-
-/// The guard of a π, which is put into the pool where it isn't there.
-fn guard(pool: &mut Pool, item: SignedId) -> Result<Option<SignedId>, AllocError>
-    requires { IsLive pool.old item.form }
-    ensures guard { IfOk result (λ o. option_map (signed_at pool.new) o ≡ guard_of (signed_at pool.new item)) }
-    ensures live { IfOk result (λ o. IfSome o (λ x. IsLive pool.new x.form)) }
-    ensures grows { Grows pool.old pool.new }
-{
-    match (item.sign, pool.node(item.form)) {
-        (Sign::F, Node::Nec(a)) => {
-            let a = *a;
-            let same = pool.make(Node::Imp(a, item.form))?;
-            let form = pool.make(Node::Nec(same))?;
-            Ok(Some(SignedId {
-                sign: Sign::T,
-                form,
-            }))
-        }
-        (Sign::T, Node::Poss(a)) => {
-            let a = *a;
-            let not = pool.make(Node::Not(a))?;
-            let other = pool.make(Node::And(not, item.form))?;
-            let form = pool.make(Node::Poss(other))?;
-            Ok(Some(SignedId {
-                sign: Sign::F,
-                form,
-            }))
-        }
-        _ => Ok(None),
+        Logic::GL => Ok(Some(item.flip())),
+        Logic::Grz => pool.guard(item),
     }
 }
 

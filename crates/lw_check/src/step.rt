@@ -1,7 +1,5 @@
 ghost use Rattle.std.specs.Prelude.{◌≡◌, ◌<◌, length, IsTrue, IfNone};
-ghost use Rattle.lw_formula.specs.Components as components;
 ghost use Rattle.lw_formula.specs.Signed.{Signed, SignedSet};
-ghost use Rattle.lw_formula.specs.Signs.{opposite};
 ghost use Rattle.lw_pool.specs.Region as region;
 ghost use Rattle.lw_pool.specs.Region.{IsLive, signed_at};
 ghost use Rattle.lw_proof.specs.Tree.{rule_of, principal_of, subs_of};
@@ -12,7 +10,7 @@ ghost use Rattle.lw_check.specs.Private.ItemSets.{set_of, AreLive};
 ghost use Rattle.lw_check.specs.Private.ProofWalk.{TellsReason};
 
 use lw_formula::{Logic, Parts, Sign};
-use lw_pool::{FormId, Node, Pool, SignedId};
+use lw_pool::{FormId, Pool, SignedId};
 use lw_proof::{Proof, Rule, SignedIds, Why, has_cut, has_refl};
 
 /// Why the first step of the proof breaks its rule, where the items are to be closed and the marked formulas may be
@@ -68,7 +66,7 @@ fn fits(pool: &Pool, rule: Rule, item: SignedId) -> bool
     let parts = pool.parts(item);
     match rule {
         Rule::Close => matches!(item.sign, Sign::T),
-        Rule::Absurd => is_absurd(pool, item),
+        Rule::Absurd => pool.is_absurd(item),
         Rule::One => matches!(parts, Parts::One(_, _)),
         Rule::Two => matches!(parts, Parts::Two(_, _)),
         Rule::Refl => matches!(parts, Parts::Nu(_)),
@@ -79,17 +77,6 @@ fn fits(pool: &Pool, rule: Rule, item: SignedId) -> bool
     }
 }
 
-/// Whether it is `T false` or `F true`.
-fn is_absurd(pool: &Pool, item: SignedId) -> bool
-    requires { IsLive pool.now item.form }
-    ensures { result ≡ components.is_absurd (signed_at pool.now item) }
-{
-    matches!(
-        (item.sign, pool.node(item.form)),
-        (Sign::T, Node::Bot) | (Sign::F, Node::Top)
-    )
-}
-
 /// Whether the items have what must be there.
 fn present(pool: &Pool, items: &SignedIds, rule: Rule, item: SignedId) -> bool
     requires items { AreLive pool.now items.now }
@@ -97,7 +84,7 @@ fn present(pool: &Pool, items: &SignedIds, rule: Rule, item: SignedId) -> bool
     ensures { result ≡ breaks.present trees (set_of pool.now items.now) rule (signed_at pool.now item) }
 {
     match rule {
-        Rule::Close => has(pool, items, item) && has(pool, items, flipped(item)),
+        Rule::Close => has(pool, items, item) && has(pool, items, item.flip()),
         Rule::Absurd | Rule::One | Rule::Two | Rule::Refl | Rule::Step => has(pool, items, item),
         Rule::Cut => true,
     }
@@ -111,16 +98,6 @@ fn has(pool: &Pool, items: &SignedIds, item: SignedId) -> bool
 {
     prove!(item.form.0 < pool.count());
     items.has(item)
-}
-
-/// The same formula under the other sign.
-pub(crate) fn flipped(item: SignedId) -> SignedId
-    ensures { result ≡ record { sign = opposite item.sign; form = item.form } }
-{
-    SignedId {
-        sign: item.sign.flip(),
-        form: item.form,
-    }
 }
 
 /// Whether a cut, if the rule is one, is on a formula that is marked.
