@@ -19,7 +19,9 @@ use Rattle.lw_pool.proofs.SubformulasBelow.{operand_within}
 use Rattle.lw_proof.specs.Derivation.{is_pi, is_subformula}
 use Rattle.lw_closure.specs.declared.entry.Entry.{Entry}
 use Rattle.lw_closure.specs.declared.fault.TheConstants.{SUBFORMULA_LIMIT}
-use Rattle.lw_closure.specs.Building.{IsNumbering, own_guard, IsOfOwnGuard, HasGuards, FitsLogic, IsEntry, AreEntries}
+use Rattle.lw_closure.specs.Private.NumberedForms.{IsNumbering}
+use Rattle.lw_closure.specs.Private.GuardNumbers.{own_guard, IsOfOwnGuard, HasGuards, FitsLogic}
+use Rattle.lw_closure.specs.Private.TableEntries.{IsEntry, AreEntries}
 use Rattle.lw_closure.specs.Table.{Table, IsTable, item_count, entry_at, form_of, form_at, signed_of}
 use Rattle.lw_closure.specs.Keeps.{Keeps, guard_in, IsOfGuard, IsOfClosure}
 use Rattle.lw_closure.proofs.GrownClosures.{stands_on, stood}

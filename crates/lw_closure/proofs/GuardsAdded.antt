@@ -3,133 +3,161 @@ use Rattle.std.proofs.Common.{◌≡◌, ℕ, zero, suc, ◌+◌, ◌-◌, ◌*�
 use Rattle.std.specs.Option.{option_map, ForSome}
 use Rattle.std.specs.List.{All, Contains}
 use Rattle.std.proofs.lemmas.Bool.{cases_Bool, cases_order, false≢true}
+use Rattle.std.proofs.lemmas.Option.{none-some}
 use Rattle.std.proofs.lemmas.List.{get_or_append_left, get_or_default, get_or_push}
+use Rattle.lw_formula.specs.declared.sign.Sign.{Sign}
 use Rattle.lw_formula.specs.declared.sign.Sign.TheVariants.{T, F}
+use Rattle.lw_formula.specs.Signed.{Signed}
 use Rattle.lw_formula.specs.Formula.{Formula, neg, conj, impl, nec, poss, is_modal, IsOperand, IsSubformula}
+use Rattle.lw_formula.specs.Components.{guard_of}
+use Rattle.lw_formula.proofs.SubformulaLists.{IsSubformula-refl}
 use Rattle.lw_pool.specs.declared.id.FormId.{FormId}
-use Rattle.lw_pool.specs.Region.{tree_at, signed_at, IsLive, IsAt, Grows}
-use Rattle.lw_pool.proofs.RegionGrowth.{Grows-trans}
-use Rattle.lw_closure.specs.Building.{IsAdded, IsNumbering, own_guard, IsOfOwnGuard, AddsGuard, HasGuards}
+use Rattle.lw_pool.specs.declared.id.SignedId.{SignedId}
+use Rattle.lw_pool.specs.Region.{tree_at, signed_at, IsLive, Grows}
+use Rattle.lw_closure.specs.Private.NumberedForms.{IsAdded, IsNumbering}
+use Rattle.lw_closure.specs.Private.GuardNumbers.{own_guard, body_in, first_in, IsOfOwnGuard, AddsGuard, HasGuards}
 use Rattle.lw_closure.specs.Table.{sign_of, form_of, form_at, item_of}
 use Rattle.lw_closure.specs.Keeps.{StandsBelow}
 use Rattle.lw_closure.proofs.GrownClosures.{live_member, same_form, stands_on, stood}
 use Rattle.lw_closure.proofs.MappedComponents.{option_same}
-use Rattle.lw_closure.proofs.LongerNumberings.{numbering_on, Stands, member_stands, operand_stands, subformula_stands, Puts, put, join, adds_guard}
+use Rattle.lw_closure.proofs.LongerNumberings.{numbering_on, Stands, member_stands, operand_stands, subformula_stands, Puts, put, join, adds_none, adds_guard}
 
--- what has an id keeps it
-pub grown_at : (old new : List Formula) (f : Formula) (a : FormId) → Grows old new → IsAt old f a → IsAt new f a
-grown_at old new f a g h = (omega (arith, g.longer, h.0), g.same a h.0 ∙ h.1)
+-- three formulas behind others, of which each has its operands among those before it
+module _ (ts : List Formula) (old one two new : List FormId) (first body guard : FormId) (j k at : ℕ) (numbering : IsNumbering ts old)
+    (first_live : IsLive ts first) (body_live : IsLive ts body) (guard_live : IsLive ts guard)
+    (first_added : IsAdded old one first j) (body_added : IsAdded one two body k) (guard_added : IsAdded two new guard at) where
+  -- c is one of the three
+  abbrev IsOne : Formula → Type 0
+  IsOne c = ((c ≡ tree_at ts first) ⊎ (c ≡ tree_at ts body)) ⊎ (c ≡ tree_at ts guard)
 
--- `box(A -> box A)` behind formulas that have `box A`
-pub box_puts : (ts : List Formula) (old mid new : List FormId) (a : Formula) (boxed kept guard : FormId) (k at i : ℕ) →
-    IsNumbering ts old → Contains old boxed → tree_at ts boxed ≡ nec a → IsAt ts (impl a (nec a)) kept → IsAt ts (nec (impl a (nec a))) guard →
-    IsAdded old mid kept k → IsAdded mid new guard at → sign_of i ≡ T → i / 2 ≡ at → AddsGuard ts old new (nec a) (Some i)
-box_puts ts old mid new a boxed kept guard k at i numbering there is kept_at guard_at kept_added guard_added sign half =
-    adds_guard ts old new 2 (λ c. (c ≡ tree_at ts kept) ⊎ (c ≡ tree_at ts guard)) (nec a) (T, nec (impl a (nec a))) guard at i
-    (join ts old mid new 1 1 (λ c. c ≡ tree_at ts kept) (λ c. c ≡ tree_at ts guard) first second)
-    (omega arith) refl refl inside outside guard_added.below guard_added.there guard_at.1 sign half
-  where
-    whole : Stands ts old (nec a)
-    whole = subst (Stands ts old) is (member_stands ts old boxed there)
+  three_put : ((c : Formula) → IsOperand c (tree_at ts first) → Stands ts old c) →
+      ((c : Formula) → IsOperand c (tree_at ts body) → Stands ts old c ⊎ (c ≡ tree_at ts first)) →
+      ((c : Formula) → IsOperand c (tree_at ts guard) → c ≡ tree_at ts body) → Puts ts old new 3 IsOne
+  three_put of_first of_body of_guard =
+      join ts old two new 2 1 (λ c. (c ≡ tree_at ts first) ⊎ (c ≡ tree_at ts body)) (λ c. c ≡ tree_at ts guard)
+      (join ts old one two 1 1 (λ c. c ≡ tree_at ts first) (λ c. c ≡ tree_at ts body) puts_first puts_body)
+      (put ts two guard puts_body.numbering guard_live (λ c o. (puts_body.exact c).1 (inr (of_guard c o))) new at guard_added)
+    where
+      puts_first : Puts ts old one 1 (λ c. c ≡ tree_at ts first)
+      puts_first = put ts old first numbering first_live of_first one j first_added
 
-    inner : Stands ts old a
-    inner = operand_stands ts old numbering (nec a) a whole refl
+      puts_body : Puts ts one two 1 (λ c. c ≡ tree_at ts body)
+      puts_body = put ts one body puts_first.numbering body_live (λ c o. (puts_first.exact c).1 (of_body c o)) two k body_added
 
-    kept_operands : (c : Formula) → IsOperand c (impl a (nec a)) → Stands ts old c
-    kept_operands c (inl e) = subst (Stands ts old) (sym e) inner
-    kept_operands c (inr e) = subst (Stands ts old) (sym e) whole
+  -- `A`, `A -> box A` and `box(A -> box A)` behind formulas that have `box A`
+  box_puts : (a : Formula) → Stands ts old (nec a) → tree_at ts first ≡ a → tree_at ts body ≡ impl a (nec a) → tree_at ts guard ≡ nec (impl a (nec a)) →
+      Puts ts old new 3 IsOne × ((c : Formula) → IsOne c → IsSubformula c (tree_at ts guard)) × ((c : Formula) → IsSubformula c (tree_at ts guard) → Stands ts old c ⊎ IsOne c)
+  box_puts a whole is_first is_body is_guard = (
+    three_put
+        (λ c o. operand_stands ts old numbering a c inner (subst (IsOperand c) is_first o))
+        (λ c o. elim (the_operands c o) [ inl e ↦ inr (e ∙ sym is_first) | inr e ↦ inl (subst (Stands ts old) (sym e) whole) ])
+        (λ c o. the_body c o ∙ sym is_body),
+    λ c h. subst (IsSubformula c) (sym is_guard) (inside c h),
+    λ c h. outside c (subst (IsSubformula c) is_guard h),
+  )
+    where
+      inner : Stands ts old a
+      inner = operand_stands ts old numbering (nec a) a whole refl
 
-    first : Puts ts old mid 1 (λ c. c ≡ tree_at ts kept)
-    first = put ts old kept numbering kept_at.0 (λ c o. kept_operands c (subst (IsOperand c) kept_at.1 o)) mid k kept_added
+      the_operands : (c : Formula) → IsOperand c (tree_at ts body) → (c ≡ a) ⊎ (c ≡ nec a)
+      the_operands c o = subst (IsOperand c) is_body o
 
-    second : Puts ts mid new 1 (λ c. c ≡ tree_at ts guard)
-    second = put ts mid guard first.numbering guard_at.0 (λ c o. (first.exact c).1 (inr (subst (IsOperand c) guard_at.1 o ∙ sym kept_at.1))) new at guard_added
+      the_body : (c : Formula) → IsOperand c (tree_at ts guard) → c ≡ impl a (nec a)
+      the_body c o = subst (IsOperand c) is_guard o
 
-    inside : (c : Formula) → (c ≡ tree_at ts kept) ⊎ (c ≡ tree_at ts guard) → IsSubformula c (nec (impl a (nec a)))
-    inside c (inl e) = inr (inl (e ∙ kept_at.1))
-    inside c (inr e) = inl (e ∙ guard_at.1)
+      inside : (c : Formula) → IsOne c → IsSubformula c (nec (impl a (nec a)))
+      inside c (inl (inl e)) = inr (inr (inl (subst (λ x. IsSubformula x a) (sym (e ∙ is_first)) (IsSubformula-refl a))))
+      inside c (inl (inr e)) = inr (inl (e ∙ is_body))
+      inside c (inr e) = inl (e ∙ is_guard)
 
-    outside : (c : Formula) → IsSubformula c (nec (impl a (nec a))) → Stands ts old c ⊎ ((c ≡ tree_at ts kept) ⊎ (c ≡ tree_at ts guard))
-    outside c (inl e) = inr (inr (e ∙ sym guard_at.1))
-    outside c (inr (inl e)) = inr (inl (e ∙ sym kept_at.1))
-    outside c (inr (inr (inl s))) = inl (subformula_stands ts old numbering a c inner s)
-    outside c (inr (inr (inr s))) = inl (subformula_stands ts old numbering (nec a) c whole s)
+      outside : (c : Formula) → IsSubformula c (nec (impl a (nec a))) → Stands ts old c ⊎ IsOne c
+      outside c (inl e) = inr (inr (e ∙ sym is_guard))
+      outside c (inr (inl e)) = inr (inl (inr (e ∙ sym is_body)))
+      outside c (inr (inr (inl s))) = inl (subformula_stands ts old numbering a c inner s)
+      outside c (inr (inr (inr s))) = inl (subformula_stands ts old numbering (nec a) c whole s)
 
-pub box_guard : (ts0 ts1 ts2 : List Formula) (old mid new : List FormId) (boxed a kept guard : FormId) (k at i : ℕ) →
-    IsNumbering ts0 old → Contains old boxed → IsLive ts0 a → tree_at ts0 boxed ≡ nec (tree_at ts0 a) →
-    Grows ts0 ts1 → IsAt ts1 (impl (tree_at ts0 a) (tree_at ts0 boxed)) kept → Grows ts1 ts2 → IsAt ts2 (nec (tree_at ts1 kept)) guard →
-    IsAdded old mid kept k → IsAdded mid new guard at → sign_of i ≡ T → i / 2 ≡ at → AddsGuard ts2 old new (tree_at ts0 boxed) (Some i)
-box_guard ts0 ts1 ts2 old mid new boxed a kept guard k at i numbering there live is g kept_at h guard_at kept_added guard_added sign half =
-    let all : Grows ts0 ts2 = Grows-trans ts0 ts1 ts2 g h in
-    let body : impl (tree_at ts0 a) (tree_at ts0 boxed) ≡ impl (tree_at ts0 a) (nec (tree_at ts0 a)) = ap (impl (tree_at ts0 a)) is in
-    subst (λ f. AddsGuard ts2 old new f (Some i)) (sym is)
-    (box_puts ts2 old mid new (tree_at ts0 a) boxed kept guard k at i (numbering_on ts0 ts2 old all numbering) there
-    (all.same boxed (live_member ts0 old boxed numbering.live there) ∙ is)
-    (grown_at ts1 ts2 (impl (tree_at ts0 a) (nec (tree_at ts0 a))) kept h (kept_at.0, kept_at.1 ∙ body))
-    (guard_at.0, guard_at.1 ∙ ap nec (kept_at.1 ∙ body))
-    kept_added guard_added sign half)
+  -- `~A`, `~A & dia A` and `dia(~A & dia A)` behind formulas that have `dia A`
+  dia_puts : (a : Formula) → Stands ts old (poss a) → tree_at ts first ≡ neg a → tree_at ts body ≡ conj (neg a) (poss a) → tree_at ts guard ≡ poss (conj (neg a) (poss a)) →
+      Puts ts old new 3 IsOne × ((c : Formula) → IsOne c → IsSubformula c (tree_at ts guard)) × ((c : Formula) → IsSubformula c (tree_at ts guard) → Stands ts old c ⊎ IsOne c)
+  dia_puts a whole is_first is_body is_guard = (
+    three_put
+        (λ c o. subst (Stands ts old) (sym (the_negated c o)) inner)
+        (λ c o. elim (the_operands c o) [ inl e ↦ inr (e ∙ sym is_first) | inr e ↦ inl (subst (Stands ts old) (sym e) whole) ])
+        (λ c o. the_body c o ∙ sym is_body),
+    λ c h. subst (IsSubformula c) (sym is_guard) (inside c h),
+    λ c h. outside c (subst (IsSubformula c) is_guard h),
+  )
+    where
+      inner : Stands ts old a
+      inner = operand_stands ts old numbering (poss a) a whole refl
 
--- `dia(~A & dia A)` behind formulas that have `dia A`
-pub dia_puts : (ts : List Formula) (old one two new : List FormId) (a : Formula) (possible negation lost guard : FormId) (j k at i : ℕ) →
-    IsNumbering ts old → Contains old possible → tree_at ts possible ≡ poss a → IsAt ts (neg a) negation → IsAt ts (conj (neg a) (poss a)) lost →
-    IsAt ts (poss (conj (neg a) (poss a))) guard → IsAdded old one negation j → IsAdded one two lost k → IsAdded two new guard at →
-    sign_of i ≡ F → i / 2 ≡ at → AddsGuard ts old new (poss a) (Some i)
-dia_puts ts old one two new a possible negation lost guard j k at i numbering there is negation_at lost_at guard_at negation_added lost_added guard_added sign half =
-    adds_guard ts old new 3 (λ c. ((c ≡ tree_at ts negation) ⊎ (c ≡ tree_at ts lost)) ⊎ (c ≡ tree_at ts guard)) (poss a) (F, poss (conj (neg a) (poss a))) guard at i
-    (join ts old two new 2 1 (λ c. (c ≡ tree_at ts negation) ⊎ (c ≡ tree_at ts lost)) (λ c. c ≡ tree_at ts guard) both third)
-    (omega arith) refl refl inside outside guard_added.below guard_added.there guard_at.1 sign half
-  where
-    whole : Stands ts old (poss a)
-    whole = subst (Stands ts old) is (member_stands ts old possible there)
+      the_negated : (c : Formula) → IsOperand c (tree_at ts first) → c ≡ a
+      the_negated c o = subst (IsOperand c) is_first o
 
-    inner : Stands ts old a
-    inner = operand_stands ts old numbering (poss a) a whole refl
+      the_operands : (c : Formula) → IsOperand c (tree_at ts body) → (c ≡ neg a) ⊎ (c ≡ poss a)
+      the_operands c o = subst (IsOperand c) is_body o
 
-    first : Puts ts old one 1 (λ c. c ≡ tree_at ts negation)
-    first = put ts old negation numbering negation_at.0 (λ c o. subst (Stands ts old) (sym (subst (IsOperand c) negation_at.1 o)) inner) one j negation_added
+      the_body : (c : Formula) → IsOperand c (tree_at ts guard) → c ≡ conj (neg a) (poss a)
+      the_body c o = subst (IsOperand c) is_guard o
 
-    lost_operands : (c : Formula) → IsOperand c (conj (neg a) (poss a)) → Stands ts one c
-    lost_operands c (inl e) = (first.exact c).1 (inr (e ∙ sym negation_at.1))
-    lost_operands c (inr e) = (first.exact c).1 (inl (subst (Stands ts old) (sym e) whole))
+      inside : (c : Formula) → IsOne c → IsSubformula c (poss (conj (neg a) (poss a)))
+      inside c (inl (inl e)) = inr (inr (inl (inl (e ∙ is_first))))
+      inside c (inl (inr e)) = inr (inl (e ∙ is_body))
+      inside c (inr e) = inl (e ∙ is_guard)
 
-    second : Puts ts one two 1 (λ c. c ≡ tree_at ts lost)
-    second = put ts one lost first.numbering lost_at.0 (λ c o. lost_operands c (subst (IsOperand c) lost_at.1 o)) two k lost_added
+      outside : (c : Formula) → IsSubformula c (poss (conj (neg a) (poss a))) → Stands ts old c ⊎ IsOne c
+      outside c (inl e) = inr (inr (e ∙ sym is_guard))
+      outside c (inr (inl e)) = inr (inl (inr (e ∙ sym is_body)))
+      outside c (inr (inr (inl (inl e)))) = inr (inl (inl (e ∙ sym is_first)))
+      outside c (inr (inr (inl (inr s)))) = inl (subformula_stands ts old numbering a c inner s)
+      outside c (inr (inr (inr s))) = inl (subformula_stands ts old numbering (poss a) c whole s)
 
-    both : Puts ts old two 2 (λ c. (c ≡ tree_at ts negation) ⊎ (c ≡ tree_at ts lost))
-    both = join ts old one two 1 1 (λ c. c ≡ tree_at ts negation) (λ c. c ≡ tree_at ts lost) first second
+  module _ (sign : Sign) (i : ℕ) (signed : sign_of i ≡ sign) (half : i / 2 ≡ at)
+      (is_body : tree_at ts body ≡ body_in (tree_at ts guard)) (is_first : tree_at ts first ≡ first_in (tree_at ts body)) where
+    -- the guard of a formula that stands before
+    put_guard : (f : Formula) → Stands ts old f → own_guard f ≡ Some (sign, tree_at ts guard) → AddsGuard ts old new f (Some i)
+    put_guard (nec a) whole own =
+        let few : 3 ≤ 3 = omega arith in
+        let same : (sign, tree_at ts guard) ≡ (T, nec (impl a (nec a))) = cc in
+        let is_guard : tree_at ts guard ≡ nec (impl a (nec a)) = ap (λ (s : Signed). s.1) same in
+        let the_body : tree_at ts body ≡ impl a (nec a) = is_body ∙ ap body_in is_guard in
+        let puts = box_puts a whole (is_first ∙ ap first_in the_body) the_body is_guard in
+        adds_guard ts old new 3 IsOne (nec a) (sign, tree_at ts guard) guard at i puts.0 few refl own puts.1 puts.2
+        guard_added.below guard_added.there refl signed half
+    put_guard (poss a) whole own =
+        let few : 3 ≤ 3 = omega arith in
+        let same : (sign, tree_at ts guard) ≡ (F, poss (conj (neg a) (poss a))) = cc in
+        let is_guard : tree_at ts guard ≡ poss (conj (neg a) (poss a)) = ap (λ (s : Signed). s.1) same in
+        let the_body : tree_at ts body ≡ conj (neg a) (poss a) = is_body ∙ ap body_in is_guard in
+        let puts = dia_puts a whole (is_first ∙ ap first_in the_body) the_body is_guard in
+        adds_guard ts old new 3 IsOne (poss a) (sign, tree_at ts guard) guard at i puts.0 few refl own puts.1 puts.2
+        guard_added.below guard_added.there refl signed half
+    put_guard _ whole own = absurd (none-some (sign, tree_at ts guard) own)
 
-    third : Puts ts two new 1 (λ c. c ≡ tree_at ts guard)
-    third = put ts two guard second.numbering guard_at.0 (λ c o. (second.exact c).1 (inr (subst (IsOperand c) guard_at.1 o ∙ sym lost_at.1))) new at guard_added
+module _ (old_ts ts : List Formula) (grows : Grows old_ts ts) (old : List FormId) (form : FormId) (item : SignedId)
+    (numbering : IsNumbering old_ts old) (there : Contains old form) (is_item : item.form ≡ form)
+    (own : guard_of (signed_at old_ts item) ≡ own_guard (tree_at old_ts form)) where
+  form_live : IsLive old_ts form
+  form_live = live_member old_ts old form numbering.live there
 
-    inside : (c : Formula) → ((c ≡ tree_at ts negation) ⊎ (c ≡ tree_at ts lost)) ⊎ (c ≡ tree_at ts guard) → IsSubformula c (poss (conj (neg a) (poss a)))
-    inside c (inl (inl e)) = inr (inr (inl (inl (e ∙ negation_at.1))))
-    inside c (inl (inr e)) = inr (inl (e ∙ lost_at.1))
-    inside c (inr e) = inl (e ∙ guard_at.1)
+  -- the guard is the same in the pool that has grown
+  own_later : own_guard (tree_at old_ts form) ≡ guard_of (signed_at ts item)
+  own_later = sym own ∙ ap guard_of (λ i. (item.sign, sym (grows.same item.form (subst (IsLive old_ts) (sym is_item) form_live)) i))
 
-    outside : (c : Formula) → IsSubformula c (poss (conj (neg a) (poss a))) → Stands ts old c ⊎ (((c ≡ tree_at ts negation) ⊎ (c ≡ tree_at ts lost)) ⊎ (c ≡ tree_at ts guard))
-    outside c (inl e) = inr (inr (e ∙ sym guard_at.1))
-    outside c (inr (inl e)) = inr (inl (inr (e ∙ sym lost_at.1)))
-    outside c (inr (inr (inl (inl e)))) = inr (inl (inl (e ∙ sym negation_at.1)))
-    outside c (inr (inr (inl (inr s)))) = inl (subformula_stands ts old numbering a c inner s)
-    outside c (inr (inr (inr s))) = inl (subformula_stands ts old numbering (poss a) c whole s)
+  pub no_guard : (o : Option SignedId) → o ≡ None → option_map (signed_at ts) o ≡ guard_of (signed_at ts item) → AddsGuard ts old old (tree_at old_ts form) None
+  no_guard o none told =
+      adds_none ts old (tree_at old_ts form) (numbering_on old_ts ts old grows numbering) (own_later ∙ sym told ∙ ap (option_map (signed_at ts)) none)
 
-pub dia_guard : (ts0 ts1 ts2 ts3 : List Formula) (old one two new : List FormId) (possible a negation lost guard : FormId) (j k at i : ℕ) →
-    IsNumbering ts0 old → Contains old possible → IsLive ts0 a → tree_at ts0 possible ≡ poss (tree_at ts0 a) →
-    Grows ts0 ts1 → IsAt ts1 (neg (tree_at ts0 a)) negation → Grows ts1 ts2 → IsAt ts2 (conj (tree_at ts1 negation) (tree_at ts1 possible)) lost →
-    Grows ts2 ts3 → IsAt ts3 (poss (tree_at ts2 lost)) guard →
-    IsAdded old one negation j → IsAdded one two lost k → IsAdded two new guard at → sign_of i ≡ F → i / 2 ≡ at →
-    AddsGuard ts3 old new (tree_at ts0 possible) (Some i)
-dia_guard ts0 ts1 ts2 ts3 old one two new possible a negation lost guard j k at i numbering there live is g negation_at h lost_at m guard_at negation_added lost_added guard_added sign half =
-    let all : Grows ts0 ts3 = Grows-trans ts0 ts2 ts3 (Grows-trans ts0 ts1 ts2 g h) m in
-    let own : IsLive ts0 possible = live_member ts0 old possible numbering.live there in
-    let body : conj (tree_at ts1 negation) (tree_at ts1 possible) ≡ conj (neg (tree_at ts0 a)) (poss (tree_at ts0 a)) = λ x. conj (negation_at.1 x) ((g.same possible own ∙ is) x) in
-    subst (λ f. AddsGuard ts3 old new f (Some i)) (sym is)
-    (dia_puts ts3 old one two new (tree_at ts0 a) possible negation lost guard j k at i (numbering_on ts0 ts3 old all numbering) there
-    (all.same possible own ∙ is)
-    (grown_at ts1 ts3 (neg (tree_at ts0 a)) negation (Grows-trans ts1 ts2 ts3 h m) negation_at)
-    (grown_at ts2 ts3 (conj (neg (tree_at ts0 a)) (poss (tree_at ts0 a))) lost m (lost_at.0, lost_at.1 ∙ body))
-    (guard_at.0, guard_at.1 ∙ ap poss (lost_at.1 ∙ body))
-    negation_added lost_added guard_added sign half)
+  -- the guard and what it is made of are put
+  pub guard_put : (o : Option SignedId) (guard : SignedId) → o ≡ Some guard → option_map (signed_at ts) o ≡ guard_of (signed_at ts item) → IsLive ts guard.form →
+      (body first : FormId) → IsLive ts body → tree_at ts body ≡ body_in (tree_at ts guard.form) → IsLive ts first → tree_at ts first ≡ first_in (tree_at ts body) →
+      (one two new : List FormId) (j k at i : ℕ) → IsAdded old one first j → IsAdded one two body k → IsAdded two new guard.form at →
+      sign_of i ≡ guard.sign → i / 2 ≡ at → AddsGuard ts old new (tree_at old_ts form) (Some i)
+  guard_put o guard is told guard_live body first body_live is_body first_live is_first one two new j k at i first_added body_added guard_added signed half =
+      put_guard ts old one two new first body guard.form j k at (numbering_on old_ts ts old grows numbering) first_live body_live guard_live
+      first_added body_added guard_added guard.sign i signed half is_body is_first (tree_at old_ts form)
+      (subst (Stands ts old) (grows.same form form_live) (member_stands ts old form there))
+      (own_later ∙ sym told ∙ ap (option_map (signed_at ts)) is)
 
 -- what holds at each place and of one more element holds at each place of the longer list
 pub each_more : {X : Type 0} (P : ℕ → X → Type 0) (xs : List X) (x d : X) → ((j : ℕ) → j < length xs → P j (get_or xs j d)) → P (length xs) x →

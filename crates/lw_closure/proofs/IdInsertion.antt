@@ -11,7 +11,7 @@ use Rattle.lw_formula.specs.FiniteModel.{AreDistinct}
 use Rattle.lw_formula.proofs.ListTests.{list_any-Contains}
 use Rattle.lw_pool.specs.declared.id.FormId.{FormId}
 use Rattle.lw_pool.specs.contracts.id.FormIdPartialEq.TheImpl as derived
-use Rattle.lw_closure.specs.Building.{IsAdded}
+use Rattle.lw_closure.specs.Private.NumberedForms.{IsAdded}
 use Rattle.lw_closure.specs.Table.{form_of}
 
 abbrev pub form_eq : FormId → FormId → Bool

@@ -9,7 +9,8 @@ use Rattle.lw_formula.specs.Signed.{Signed}
 use Rattle.lw_formula.proofs.ListMembers.{AreDistinct-push}
 use Rattle.lw_pool.specs.declared.id.FormId.{FormId}
 use Rattle.lw_pool.specs.Region.{tree_at, signed_at, IsLive, Grows}
-use Rattle.lw_closure.specs.Building.{IsAdded, IsNumbering, own_guard, AddsGuard}
+use Rattle.lw_closure.specs.Private.NumberedForms.{IsAdded, IsNumbering}
+use Rattle.lw_closure.specs.Private.GuardNumbers.{own_guard, AddsGuard}
 use Rattle.lw_closure.specs.Table.{sign_of, form_of, form_at, item_of}
 use Rattle.lw_closure.specs.Keeps.{StandsBelow}
 use Rattle.lw_closure.proofs.GrownClosures.{same_form, still_live, stands_on}

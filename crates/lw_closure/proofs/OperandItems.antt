@@ -12,7 +12,8 @@ use Rattle.lw_pool.specs.declared.id.FormId.{FormId}
 use Rattle.lw_pool.specs.declared.id.SignedId.{SignedId}
 use Rattle.lw_pool.specs.Region.{tree_at, signed_at, both_at, parts_at, AreBothBelow, ArePartsBelow, AreIdsExact, IsLive}
 use Rattle.lw_closure.specs.declared.entry.Entry.{Entry}
-use Rattle.lw_closure.specs.Building.{AreEntries, IsEntry, IsNumbering}
+use Rattle.lw_closure.specs.Private.NumberedForms.{IsNumbering}
+use Rattle.lw_closure.specs.Private.TableEntries.{AreEntries, IsEntry}
 use Rattle.lw_closure.specs.Mapping.{OfBoth, OfParts}
 use Rattle.lw_closure.specs.Table.{form_of, item_of}
 use Rattle.lw_closure.proofs.MappedComponents.{OfParts-imp}

@@ -3,5 +3,6 @@ pub mod Table
 pub mod Items
 pub mod Unclosed
 pub mod Keeps
-pub mod Building
+pub mod Fault
 pub mod Laws
+pub mod Private

@@ -1,7 +1,7 @@
 ghost use Rattle.std.specs.Prelude.{◌≡◌, ◌≤◌, IfErr, IfOk, OnOk};
 ghost use Rattle.lw_formula.specs.Formula.{subformula_count};
 ghost use Rattle.lw_pool.specs.Region.{tree_at, Grows, IsLive};
-ghost use Rattle.lw_closure.specs.Building.{IsFault};
+ghost use Rattle.lw_closure.specs.Fault.{IsFault};
 ghost use Rattle.lw_closure.specs.Keeps.{Keeps};
 
 use crate::entries::entries;
@@ -11,10 +11,16 @@ use crate::numbering::numbering;
 use crate::table::Closure;
 use lw_formula::Logic;
 use lw_pool::{FormId, Pool};
+use std::alloc::Global;
 
 /// The closure of the goal: its subformulas, and in Grz the guards of its modal subformulas, which are put into the
 /// pool. Where the goal has too many distinct subformulas, the pool is as before.
-pub fn closure(pool: &mut Pool, logic: Logic, goal: FormId) -> Result<Closure, ClosureFault>
+pub fn closure(
+    alloc: Global,
+    pool: &mut Pool,
+    logic: Logic,
+    goal: FormId,
+) -> Result<Closure, ClosureFault>
     requires { IsLive pool.old goal }
     ensures grows { Grows pool.old pool.new }
     ensures kept { IfOk result (Keeps pool.new) }
@@ -28,8 +34,7 @@ pub fn closure(pool: &mut Pool, logic: Logic, goal: FormId) -> Result<Closure, C
     }
     // a pool that counts its formulas tells that operands stand below
     let _ = pool.count();
-    let alloc = *own.allocator();
-    let mut forms = numbering(&own)?;
+    let mut forms = numbering(alloc, &own)?;
     let guards = add_guards(alloc, pool, logic, &mut forms)?;
     let entries = entries(alloc, pool, &forms, &guards)?;
     Ok(Closure::new(logic, goal, forms, entries))
@@ -40,7 +45,6 @@ mod tests {
     use super::*;
     use lw_formula::{Name, Parts, Sign};
     use lw_pool::{Node, SignedId};
-    use std::alloc::Global;
     use std::test::Fail;
 
     fn letter(alloc: Global, pool: &mut Pool) -> Result<FormId, Fail>
@@ -68,7 +72,7 @@ mod tests {
     fn a_box_in_k_has_two_formulas(rt: HostRuntime) -> Result<(), Fail> {
         let mut pool = Pool::new(rt.alloc());
         let goal = boxed(rt.alloc(), &mut pool, 1)?;
-        let table = closure(&mut pool, Logic::K, goal)?;
+        let table = closure(rt.alloc(), &mut pool, Logic::K, goal)?;
         assert_eq!(rt; table.count(), 2);
         assert_eq!(rt; table.logic(), Logic::K);
         assert_eq!(rt; table.goal(), goal);
@@ -89,7 +93,7 @@ mod tests {
     fn a_box_in_grz_has_its_guard(rt: HostRuntime) -> Result<(), Fail> {
         let mut pool = Pool::new(rt.alloc());
         let goal = boxed(rt.alloc(), &mut pool, 1)?;
-        let table = closure(&mut pool, Logic::Grz, goal)?;
+        let table = closure(rt.alloc(), &mut pool, Logic::Grz, goal)?;
         assert_eq!(rt; table.count(), 4);
         assert_eq!(rt; table.guard(2), None);
         assert_eq!(rt; table.guard(3), Some(6));
@@ -106,7 +110,7 @@ mod tests {
         let mut pool = Pool::new(rt.alloc());
         let p = letter(rt.alloc(), &mut pool)?;
         let goal = pool.make(Node::Poss(p))?;
-        let table = closure(&mut pool, Logic::Grz, goal)?;
+        let table = closure(rt.alloc(), &mut pool, Logic::Grz, goal)?;
         assert_eq!(rt; table.count(), 5);
         assert_eq!(rt; table.guard(2), Some(9));
         assert_eq!(rt; table.guard(3), None);
@@ -121,7 +125,7 @@ mod tests {
         let never = pool.make(Node::Bot)?;
         let always = pool.make(Node::Top)?;
         let goal = pool.make(Node::And(never, always))?;
-        let table = closure(&mut pool, Logic::S5, goal)?;
+        let table = closure(rt.alloc(), &mut pool, Logic::S5, goal)?;
         assert_eq!(rt; table.count(), 3);
         assert!(rt; table.absurd(0));
         assert!(rt; !table.absurd(1));
@@ -134,10 +138,10 @@ mod tests {
     fn a_goal_may_have_128_subformulas_and_no_more(rt: HostRuntime) -> Result<(), Fail> {
         let mut pool = Pool::new(rt.alloc());
         let goal = boxed(rt.alloc(), &mut pool, 127)?;
-        let table = closure(&mut pool, Logic::K, goal)?;
+        let table = closure(rt.alloc(), &mut pool, Logic::K, goal)?;
         assert_eq!(rt; table.count(), 128);
         let larger = pool.make(Node::Nec(goal))?;
-        let fault = closure(&mut pool, Logic::K, larger).err();
+        let fault = closure(rt.alloc(), &mut pool, Logic::K, larger).err();
         assert_eq!(rt; fault, Some(ClosureFault::TooLarge { count: 129 }));
         Ok(())
     }

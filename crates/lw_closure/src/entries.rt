@@ -1,17 +1,17 @@
 ghost use Rattle.std.specs.Prelude.{◌≡◌, ◌*◌, ◌/◌, ◌<◌, ◌≤◌, Contains, EachIndex, IfOk, None, if◌then◌else◌, length};
 ghost use Rattle.std.specs.List.{slice_index_or};
-ghost use Rattle.lw_formula.specs.Components.{is_absurd};
-ghost use Rattle.lw_pool.specs.Region.{signed_at, AreIdsExact, IsLive};
+ghost use Rattle.lw_pool.specs.Region.{AreIdsExact};
 ghost use Rattle.lw_proof.specs.Derivation.{is_pi};
-ghost use Rattle.lw_closure.specs.Building.{AreEntries, IsEntry, IsNumbering};
+ghost use Rattle.lw_closure.specs.Private.NumberedForms.{IsNumbering};
+ghost use Rattle.lw_closure.specs.Private.TableEntries.{AreEntries, IsEntry};
 ghost use Rattle.lw_closure.specs.Mapping.{map_both, map_parts, OfBoth, OfParts};
 ghost use Rattle.lw_closure.specs.Table.{item_of, most_forms};
 
 use crate::entry::Entry;
 use crate::numbering::{item_at, number};
 use indexmap::IndexSet;
-use lw_formula::{Parts, Sign};
-use lw_pool::{FormId, Node, Pool, SignedId};
+use lw_formula::Parts;
+use lw_pool::{FormId, Pool, SignedId};
 use std::alloc::{AllocError, Global};
 
 /// What the rules have to know of each item, by its number.
@@ -49,7 +49,7 @@ fn entry(pool: &Pool, forms: &IndexSet<FormId>, guards: &[Option<usize>], item: 
     Entry {
         parts,
         guard: guard(guards, item / 2, parts),
-        absurd: absurd(pool, id),
+        absurd: pool.is_absurd(id),
     }
 }
 
@@ -60,17 +60,6 @@ fn guard(guards: &[Option<usize>], form: usize, parts: Parts<usize>) -> Option<u
     match parts {
         Parts::Pi(_) if form < guards.len() => guards[form],
         _ => None,
-    }
-}
-
-/// Whether the signed formula is `T false` or `F true`.
-fn absurd(pool: &Pool, item: SignedId) -> bool
-    requires { IsLive pool.now item.form }
-    ensures { result ≡ is_absurd (signed_at pool.now item) }
-{
-    match (item.sign, pool.node(item.form)) {
-        (Sign::T, Node::Bot) | (Sign::F, Node::Top) => true,
-        _ => false,
     }
 }
 

@@ -1,7 +1,8 @@
 ghost use Rattle.std.specs.Prelude.{◌≡◌, ◌+◌, ◌≤◌, Contains, IfOk, length};
-ghost use Rattle.lw_formula.specs.Formula.{nec, poss};
-ghost use Rattle.lw_pool.specs.Region.{tree_at, IsLive, Grows};
-ghost use Rattle.lw_closure.specs.Building.{AddsGuard, FitsLogic, HasGuards, IsNumbering};
+ghost use Rattle.lw_formula.specs.Components.{guard_of};
+ghost use Rattle.lw_pool.specs.Region.{tree_at, signed_at, IsLive, Grows};
+ghost use Rattle.lw_closure.specs.Private.NumberedForms.{IsNumbering};
+ghost use Rattle.lw_closure.specs.Private.GuardNumbers.{own_guard, body_in, first_in, AddsGuard, HasGuards, FitsLogic};
 ghost use Rattle.lw_closure.specs.Table.{most_forms};
 
 use crate::fault::SUBFORMULA_LIMIT;
@@ -9,7 +10,7 @@ use crate::item::item_number;
 use crate::numbering::{add, form_at};
 use indexmap::IndexSet;
 use lw_formula::{Logic, Sign};
-use lw_pool::{FormId, Node, Pool};
+use lw_pool::{FormId, Node, Pool, SignedId};
 use std::alloc::{AllocError, Global};
 
 /// The numbers of the guards of these formulas' πs, for each formula one or none, where the logic has guards. The
@@ -27,8 +28,8 @@ pub(crate) fn add_guards(
     ensures fits { IfOk result (λ guards. FitsLogic logic (length forms.old.keys) guards.items) }
 {
     match logic {
+        Logic::K | Logic::KT | Logic::S4 | Logic::S5 | Logic::GL => Ok(Vec::new(alloc)),
         Logic::Grz => add_each_guard(alloc, pool, forms),
-        _ => Ok(Vec::new(alloc)),
     }
 }
 
@@ -53,7 +54,8 @@ fn add_each_guard(
     Ok(guards)
 }
 
-/// The number of the guard of the formula's π, if it has one.
+/// The number of the guard of the formula's π, if it has one. The guard is put behind the formulas, and before it what
+/// it is made of.
 fn add_guard(
     pool: &mut Pool,
     forms: &mut IndexSet<FormId>,
@@ -65,61 +67,53 @@ fn add_guard(
     ensures grows { Grows pool.old pool.new }
     ensures added { IfOk result (AddsGuard pool.new forms.old.keys forms.new.keys (tree_at pool.old form)) }
 {
-    match pool.node(form) {
-        Node::Nec(a) => {
-            let a = *a;
-            add_box_guard(pool, forms, form, a)
+    let item = pi_of(pool, form);
+    match pool.guard(item)? {
+        Some(guard) => {
+            let body = body_of(pool, guard.form);
+            let first = first_of(pool, body);
+            add(forms, first)?;
+            add(forms, body)?;
+            let at = add(forms, guard.form)?;
+            Ok(Some(item_number(at, guard.sign)))
         }
-        Node::Poss(a) => {
-            let a = *a;
-            add_dia_guard(pool, forms, form, a)
-        }
-        _ => Ok(None),
+        None => Ok(None),
     }
 }
 
-/// The number of `T box(A -> box A)`, where `boxed` is `box A`.
-fn add_box_guard(
-    pool: &mut Pool,
-    forms: &mut IndexSet<FormId>,
-    boxed: FormId,
-    a: FormId,
-) -> Result<Option<usize>, AllocError>
-    requires numbering { IsNumbering pool.old forms.old.keys }
-    requires there { Contains forms.old.keys boxed }
-    requires live { IsLive pool.old a }
-    requires is { tree_at pool.old boxed ≡ nec (tree_at pool.old a) }
-    requires few { length forms.old.keys + 3 ≤ most_forms }
-    ensures grows { Grows pool.old pool.new }
-    ensures added { IfOk result (AddsGuard pool.new forms.old.keys forms.new.keys (tree_at pool.old boxed)) }
+/// The formula under the sign under which it is a π, if it is modal.
+fn pi_of(pool: &Pool, form: FormId) -> SignedId
+    requires { IsLive pool.now form }
+    ensures form { result.form ≡ form }
+    ensures guard { guard_of (signed_at pool.now result) ≡ own_guard (tree_at pool.now form) }
 {
-    let kept = pool.make(Node::Imp(a, boxed))?;
-    let guard = pool.make(Node::Nec(kept))?;
-    add(forms, kept)?;
-    let at = add(forms, guard)?;
-    Ok(Some(item_number(at, Sign::T)))
+    let sign = match pool.node(form) {
+        Node::Poss(_) => Sign::T,
+        _ => Sign::F,
+    };
+    SignedId { sign, form }
 }
 
-/// The number of `F dia(~A & dia A)`, where `possible` is `dia A`.
-fn add_dia_guard(
-    pool: &mut Pool,
-    forms: &mut IndexSet<FormId>,
-    possible: FormId,
-    a: FormId,
-) -> Result<Option<usize>, AllocError>
-    requires numbering { IsNumbering pool.old forms.old.keys }
-    requires there { Contains forms.old.keys possible }
-    requires live { IsLive pool.old a }
-    requires is { tree_at pool.old possible ≡ poss (tree_at pool.old a) }
-    requires few { length forms.old.keys + 3 ≤ most_forms }
-    ensures grows { Grows pool.old pool.new }
-    ensures added { IfOk result (AddsGuard pool.new forms.old.keys forms.new.keys (tree_at pool.old possible)) }
+/// What stands behind the guard's `box` or `dia`: `A -> box A` or `~A & dia A`.
+fn body_of(pool: &Pool, guard: FormId) -> FormId
+    requires { IsLive pool.now guard }
+    ensures live { IsLive pool.now result }
+    ensures body { tree_at pool.now result ≡ body_in (tree_at pool.now guard) }
 {
-    let negation = pool.make(Node::Not(a))?;
-    let lost = pool.make(Node::And(negation, possible))?;
-    let guard = pool.make(Node::Poss(lost))?;
-    add(forms, negation)?;
-    add(forms, lost)?;
-    let at = add(forms, guard)?;
-    Ok(Some(item_number(at, Sign::F)))
+    match pool.node(guard) {
+        Node::Nec(body) | Node::Poss(body) => *body,
+        _ => guard,
+    }
+}
+
+/// What the guard's body has on its left: `A` or `~A`.
+fn first_of(pool: &Pool, body: FormId) -> FormId
+    requires { IsLive pool.now body }
+    ensures live { IsLive pool.now result }
+    ensures first { tree_at pool.now result ≡ first_in (tree_at pool.now body) }
+{
+    match pool.node(body) {
+        Node::Imp(first, _) | Node::And(first, _) => *first,
+        _ => body,
+    }
 }

@@ -1,20 +1,20 @@
 ghost use Rattle.std.specs.Prelude.{◌≡◌, ◌*◌, ◌<◌, ◌≤◌, Contains, IfNone, IfOk, IfSome, length};
 ghost use Rattle.lw_formula.specs.FiniteModel.{AreDistinct};
-ghost use Rattle.lw_closure.specs.Building.{IsAdded};
+ghost use Rattle.lw_closure.specs.Private.NumberedForms.{IsAdded};
 ghost use Rattle.lw_closure.specs.Table.{form_of, item_of, most_forms};
 
 use crate::item::item_number;
 use indexmap::IndexSet;
 use lw_formula::Sign;
 use lw_pool::{FormId, SignedId};
-use std::alloc::AllocError;
+use std::alloc::{AllocError, Global};
 
 /// The formulas in this order, each with its place for its number.
-pub(crate) fn numbering(forms: &Vec<FormId>) -> Result<IndexSet<FormId>, AllocError>
-    requires { AreDistinct forms.now.items }
-    ensures { IfOk result (λ numbered. numbered.keys ≡ forms.now.items) }
+pub(crate) fn numbering(alloc: Global, forms: &[FormId]) -> Result<IndexSet<FormId>, AllocError>
+    requires { AreDistinct forms.now }
+    ensures { IfOk result (λ numbered. numbered.keys ≡ forms.now) }
 {
-    let mut numbered = IndexSet::new(*forms.allocator());
+    let mut numbered = IndexSet::new(alloc);
     for form in forms {
         numbered.insert(*form)?;
     }

@@ -58,7 +58,7 @@ fn each_logic_closes_a_chain_to_its_own_relation(rt: HostRuntime) -> Result<(), 
     let mut pool = Pool::new(alloc);
     let p = pool.make(Node::Var(Name::from_bytes(alloc, b"p")?))?;
     let goal = pool.make(Node::Nec(p))?;
-    let table = closure(&mut pool, Logic::K, goal)?;
+    let table = closure(alloc, &mut pool, Logic::K, goal)?;
     assert_eq!(&rt; table.count(), 2);
     let fragment = chain(alloc)?;
     for (logic, rows) in [

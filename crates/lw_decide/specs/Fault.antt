@@ -2,7 +2,7 @@
 use Rattle.std.specs.Prelude.{List}
 use Rattle.lw_formula.specs.Formula.{Formula}
 use Rattle.lw_pool.specs.declared.id.FormId.{FormId}
-use Rattle.lw_closure.specs.Building as building
+use Rattle.lw_closure.specs.Fault as closure
 use Rattle.lw_closure.specs.declared.fault.ClosureFault.{ClosureFault}
 use Rattle.lw_decide.specs.declared.fault.DecideFault.{DecideFault}
 use Rattle.lw_decide.specs.declared.fault.DecideFault.TheVariants.{TooLarge, Memory}
@@ -14,4 +14,4 @@ closure_fault Memory = ClosureFault.Memory
 
 -- the fault comes where that of the goal's closure does
 abbrev pub IsFault : List Formula → List Formula → FormId → DecideFault → Type 0
-IsFault old new goal fault = building.IsFault old new goal (closure_fault fault)
+IsFault old new goal fault = closure.IsFault old new goal (closure_fault fault)

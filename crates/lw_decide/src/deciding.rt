@@ -33,7 +33,7 @@ pub fn decide(
     ensures few { OnOk result (subformula_count (tree_at pool.old goal) ≤ SUBFORMULA_LIMIT) }
     ensures fault { IfErr result (IsFault pool.old pool.new goal) }
 {
-    let table = closure(pool, logic, goal)?;
+    let table = closure(alloc, pool, logic, goal)?;
     Ok(searched(alloc, pool, &table, logic)?)
 }
 

@@ -46,7 +46,7 @@ fn mckinsey(alloc: Global, pool: &mut Pool) -> Result<FormId, Fail>
 fn what_is_possible_is_possible_everywhere(rt: HostRuntime) -> Result<(), Fail> {
     let mut pool = Pool::new(rt.alloc());
     let goal = euclid(rt.alloc(), &mut pool)?;
-    let table = closure(&mut pool, Logic::S5, goal)?;
+    let table = closure(rt.alloc(), &mut pool, Logic::S5, goal)?;
     match search_s5(rt.alloc(), &pool, &table)? {
         Answer::Yes(proof) => {
             assert_eq!(rt; proof.rule(), Rule::One);
@@ -61,7 +61,7 @@ fn what_is_possible_is_possible_everywhere(rt: HostRuntime) -> Result<(), Fail> 
 fn a_variable_may_hold_at_one_world_and_fail_at_another(rt: HostRuntime) -> Result<(), Fail> {
     let mut pool = Pool::new(rt.alloc());
     let goal = mckinsey(rt.alloc(), &mut pool)?;
-    let table = closure(&mut pool, Logic::S5, goal)?;
+    let table = closure(rt.alloc(), &mut pool, Logic::S5, goal)?;
     match search_s5(rt.alloc(), &pool, &table)? {
         Answer::No(model, world) => {
             assert_eq!(rt; world, 0);
@@ -101,7 +101,7 @@ fn an_empty_label_is_split_on_a_box(rt: HostRuntime) -> Result<(), Fail> {
     let alloc = rt.alloc();
     let mut pool = Pool::new(alloc);
     let goal = excluded(alloc, &mut pool)?;
-    let table = closure(&mut pool, Logic::S5, goal)?;
+    let table = closure(alloc, &mut pool, Logic::S5, goal)?;
     let mut saturation = first_label(&rt, alloc, &table)?;
     assert_eq!(rt; table.count(), 4);
     assert_eq!(rt; items(alloc, &table, &saturation)?.len(), 0);

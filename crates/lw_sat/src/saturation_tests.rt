@@ -16,7 +16,7 @@ fn excluded(alloc: Global, pool: &mut Pool) -> Result<Closure, Fail>
     let boxed = pool.make(Node::Nec(p))?;
     let negated = pool.make(Node::Not(boxed))?;
     let goal = pool.make(Node::Or(boxed, negated))?;
-    Ok(closure(pool, Logic::S5, goal)?)
+    Ok(closure(alloc, pool, Logic::S5, goal)?)
 }
 
 #[test]

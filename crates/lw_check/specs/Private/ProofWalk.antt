@@ -2,11 +2,11 @@
 use Rattle.std.specs.Prelude.{◌≡◌, ℕ, ◌+◌, Bool, min, List, length, map, Option, Some, None}
 use Rattle.lw_formula.specs.declared.logic.Logic.{Logic}
 use Rattle.lw_formula.specs.Formula.{Formula}
-use Rattle.lw_formula.specs.Signed.{SignedSet}
+use Rattle.lw_formula.specs.Signed.{Signed, SignedSet}
 use Rattle.lw_pool.specs.declared.id.SignedId.{SignedId}
 use Rattle.lw_pool.specs.Region.{Grows, signed_at, is_marked}
 use Rattle.lw_proof.specs.declared.why.Why.{Why}
-use Rattle.lw_proof.specs.Tree.{Tree, EachPrincipal, forest, rule_of, principal_of, subs_of, lines, lines_all}
+use Rattle.lw_proof.specs.Tree.{Tree, Forest, EachPrincipal, forest, rule_of, principal_of, subs_of, lines, lines_all}
 use Rattle.lw_proof.specs.System.{trees}
 use Rattle.lw_proof.specs.Break.{reason, break_from, breaks_from}
 use Rattle.lw_proof.specs.Pooled.{proof_at}
@@ -35,8 +35,12 @@ Tells L now marks X P step outcome =
     (cuts : SignedSet) (ts : List Formula) (n : ℕ) → Grows now ts → AreCuts cuts ts marks P → step ≡ min n 18446744073709551615 →
     outcome ≡ outcome_of (break_from trees cuts L (X ts) n (proof_at ts P)) (n + lines P)
 
+-- the subproofs of the first step, with the signed formulas of their ids
+abbrev pub subs_at : List Formula → Tree SignedId → Forest Signed
+subs_at ts P = forest (map (λ t. proof_at ts t) (subs_of P))
+
 -- the outcome is that of the proof's subproofs, whose first step is counted as `step`, where they are to close the sets in turn
 abbrev pub TellsAll : Logic → List Formula → List Bool → (List Formula → List SignedSet) → Tree SignedId → ℕ → Walked → Type 0
 TellsAll L now marks Xs P step outcome =
     (cuts : SignedSet) (ts : List Formula) (n : ℕ) → Grows now ts → AreCuts cuts ts marks P → step ≡ min n 18446744073709551615 →
-    outcome ≡ outcome_of (breaks_from trees cuts L (Xs ts) n (forest (map (λ t. proof_at ts t) (subs_of P)))) (n + lines_all (forest (subs_of P)))
+    outcome ≡ outcome_of (breaks_from trees cuts L (Xs ts) n (subs_at ts P)) (n + lines_all (forest (subs_of P)))

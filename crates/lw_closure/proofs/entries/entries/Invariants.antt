@@ -1,5 +1,5 @@
 use Rattle.std.proofs.Common.{◌≡◌, length}
-use Rattle.lw_closure.specs.Building.{AreEntries}
+use Rattle.lw_closure.specs.Private.TableEntries.{AreEntries}
 use Rattle.lw_closure.proofs.entries.entries.Given as goal
 
 abbrev pub invariant-loop-item : goal.invariant-loop-item

@@ -1,5 +1,5 @@
 use Rattle.std.proofs.Common.{◌<◌, length, subst, sym, ap, arith}
-use Rattle.lw_closure.specs.Building.{HasGuards}
+use Rattle.lw_closure.specs.Private.GuardNumbers.{HasGuards}
 use Rattle.lw_pool.proofs.RegionGrowth.{Grows-same, Grows-trans}
 use Rattle.lw_closure.proofs.GuardsAdded.{guards_start, guards_step}
 use Rattle.lw_closure.proofs.guard.add_each_guard.Goals as goal

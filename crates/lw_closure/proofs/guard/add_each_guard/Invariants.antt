@@ -1,6 +1,6 @@
 use Rattle.std.proofs.Common.{◌≡◌, length}
 use Rattle.lw_pool.specs.Region.{Grows}
-use Rattle.lw_closure.specs.Building.{HasGuards}
+use Rattle.lw_closure.specs.Private.GuardNumbers.{HasGuards}
 use Rattle.lw_closure.proofs.guard.add_each_guard.Given as goal
 
 abbrev pub invariant-loop-at : goal.invariant-loop-at
