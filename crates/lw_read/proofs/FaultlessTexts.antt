@@ -1,74 +1,75 @@
--- A text of the grammar without a long token has no fault where no more constructs are unfinished than may be.
-use Rattle.std.proofs.Common.{◌≡◌, ℕ, zero, suc, ◌+◌, ◌<◌, ◌≤◌, List, [], ◌∷◌, ◌++◌, length, take, drop, slice_index, refl, sym, ◌∙◌, ap, subst, arith, All}
-use Rattle.std.proofs.lemmas.List.{take-append-drop, length-take-le}
-use Rattle.std.proofs.lemmas.List.Elements.{All-head, All-tail, All-cons, All-append, All-nil}
+-- A text has at most one fault, and one of the grammar without a fault reads as its tree.
+use Rattle.std.proofs.Common.{◌≡◌, ◌≢◌, ℕ, ◌+◌, ◌<◌, List, [], ◌++◌, length, take, slice_index, refl, sym, ◌∙◌, ap, arith}
+use Rattle.std.proofs.lemmas.List.{length-take-le}
 use Rattle.lw_formula.specs.Formula.{Formula}
-use Rattle.std.proofs.lemmas.Bool.{false≢true}
 use Rattle.lw_read.specs.declared.fault.ReadFault.{ReadFault}
 use Rattle.lw_read.specs.declared.fault.ReadFault.TheVariants as fault
-use Rattle.lw_read.specs.Lexemes.{Lexeme, End, lexemes_of}
-use Rattle.lw_read.specs.Places.{nesting_limit, HasUnfinished}
-use Rattle.lw_read.specs.Grammar.{IsFormula, unfinished, formulas, ReadsAs, IsFaultOf}
-use Rattle.lw_read.specs.Private.FormulaMachine.{Need, Astray, run, height}
+use Rattle.lw_read.specs.Lexemes.{Lexeme, lexemes_of}
+use Rattle.lw_read.specs.Places.{FaultKind, Unexpected, TooLong, Nested, HasUnfinished, HasFirstFault, HasNoFirstFault, HasOneCount}
+use Rattle.lw_read.specs.Grammar.{IsFormula, formulas, ReadsAs, start_of, IsFaultOf}
+use Rattle.lw_read.specs.Private.FormulaMachine.{Need, height}
 use Rattle.lw_read.specs.Text.{text_of}
 use Rattle.lw_formula.specs.Variables.{HasNames}
-use Rattle.lw_read.specs.Laws.{ReadsBack}
-use Rattle.lw_read.proofs.MachineAccepts.{accepted, heights, counts-are}
-use Rattle.lw_read.proofs.FirstFaults.{state_behind, alive, heights-at, run-append, run-astray}
-use Rattle.lw_read.proofs.PrintedTokens.{IsShort, text-reads, text-short}
+use Rattle.lw_read.specs.Laws.{HasOneFault, IsFaultless, HasOneAnswer, ReadsBack}
+use Rattle.lw_read.proofs.FaultPlaces.{fine-no-fault, one-fault, faultless-fine}
+use Rattle.lw_read.proofs.MachineAccepts.{counts-are}
+use Rattle.lw_read.proofs.FirstFaults.{state_behind, heights-at}
+use Rattle.lw_read.proofs.PrintedTokens.{text-reads}
 
--- an element, or nothing past the last one
-low-at : (xs : List ℕ) (i : ℕ) → All (λ n. n ≤ nesting_limit) xs → slice_index xs i ≤ nesting_limit
-low-at [] i all = omega arith
-low-at (x ∷ xs) zero all = All-head (λ n. n ≤ nesting_limit) x xs all
-low-at (x ∷ xs) (suc i) all = low-at xs i (All-tail (λ n. n ≤ nesting_limit) x xs all)
+-- the number of unfinished constructs is the height of the machine behind the tokens so far
+count-is : (ts : List Lexeme) (i n : ℕ) → i < length ts → HasUnfinished formulas ts i n → n ≡ height (state_behind (take (i + 1) ts))
+count-is ts i n h has =
+    let us = take (i + 1) ts in
+    sym has.2 ∙ ap (λ counts. slice_index counts i) (counts-are (us ++ has.0) has.1) ∙ heights-at i us has.0 (Need []) (length-take-le (i + 1) ts (omega arith))
 
--- the machine is nowhere astray in a text of the grammar
-on-course : (ts : List Lexeme) (a : Formula) → IsFormula ts a → (i : ℕ) → state_behind (take (i + 1) ts) ≡ Astray → ⊥
-on-course ts a tree i astray =
-    let over = accepted tree in
-    let whole = ap state_behind (take-append-drop (i + 1) ts) in
-    let parts = run-append (take (i + 1) ts) (drop (i + 1) ts) (Need []) in
-    let lost = ap (run (drop (i + 1) ts)) astray ∙ run-astray (drop (i + 1) ts) in
-    cc
+pub one-count : HasOneCount formulas
+one-count ts i n m h has also = count-is ts i n h has ∙ sym (count-is ts i m h also)
 
--- and nowhere higher than the grammar counts
-height-low : (ts : List Lexeme) (a : Formula) (tree : IsFormula ts a) → All (λ n. n ≤ nesting_limit) (unfinished tree) → (i : ℕ) → i < length ts → height (state_behind (take (i + 1) ts)) ≤ nesting_limit
-height-low ts a tree low i h =
-    let here = heights-at i (take (i + 1) ts) (drop (i + 1) ts) (Need []) (length-take-le (i + 1) ts (omega arith)) in
-    let whole = ap (λ us. slice_index (heights us (Need [])) i) (take-append-drop (i + 1) ts) in
-    let counts = ap (λ xs. slice_index xs i) (counts-are ts (a, tree)) in
-    let each = low-at (unfinished tree ++ (0 ∷ [])) i (All-append (λ n. n ≤ nesting_limit) (unfinished tree) (0 ∷ []) low (All-cons (λ n. n ≤ nesting_limit) 0 [] (omega arith) (All-nil (λ n. n ≤ nesting_limit)))) in
-    subst (λ n. n ≤ nesting_limit) (counts ∙ sym whole ∙ here) each
+-- the fault of a kind at the byte
+abbrev fault_at : FaultKind → ℕ → ReadFault
+fault_at Unexpected at = fault.Unexpected at
+fault_at TooLong at = fault.Name at
+fault_at Nested at = fault.Nested at
 
-pub fine : (text : List ℕ) (a : Formula) (tree : IsFormula (lexemes_of text) a) → All (λ n. n ≤ nesting_limit) (unfinished tree) → All IsShort (lexemes_of text) → ReadsAs text a
-fine text a tree low short =
-    let ts = lexemes_of text in
-    (λ i h. (λ d. short i d h, (height (state_behind (take (i + 1) ts)), alive ts i h (on-course ts a tree i), height-low ts a tree low i h)), tree)
+-- a fault that isn't want of memory is of a kind, at a token
+record IsAt (text : List ℕ) (e : ReadFault) : Type 0 where
+  kind : FaultKind
+  token : ℕ
+  has : HasFirstFault formulas (lexemes_of text) kind token
+  is : e ≡ fault_at kind (start_of text token)
+
+placed : (text : List ℕ) (e : ReadFault) → e ≢ fault.Memory → IsFaultOf text e → IsAt text e
+placed text (fault.Unexpected at) real is = record { kind = Unexpected; token = is.0; has = is.1; is = ap fault.Unexpected is.2 }
+placed text (fault.Name at) real is = record { kind = TooLong; token = is.0; has = is.1; is = ap fault.Name is.2 }
+placed text (fault.Nested at) real is = record { kind = Nested; token = is.0; has = is.1; is = ap fault.Nested is.2 }
+placed text fault.Memory real is = absurd (real refl)
+
+pub one-fault-of : (text : List ℕ) → HasOneFault text
+one-fault-of text e f is also real true' =
+    let here = placed text e real is in
+    let there = placed text f true' also in
+    let same = one-fault formulas one-count (lexemes_of text) here.kind there.kind here.token there.token here.has there.has in
+    here.is ∙ ap (λ kind. fault_at kind (start_of text here.token)) same.0 ∙ ap (λ i. fault_at there.kind (start_of text i)) same.1 ∙ sym there.is
+
+-- a text whose faults are want of memory alone has no token with a fault
+no-fault : (text : List ℕ) → IsFaultless text → HasNoFirstFault formulas (lexemes_of text)
+no-fault text none Unexpected i is = let same = none (fault.Unexpected (start_of text i)) (i, is, refl) in absurd (cc)
+no-fault text none TooLong i is = let same = none (fault.Name (start_of text i)) (i, is, refl) in absurd (cc)
+no-fault text none Nested i is = let same = none (fault.Nested (start_of text i)) (i, is, refl) in absurd (cc)
+
+-- and reads as its tree
+pub faultless-reads : (text : List ℕ) (a : Formula) → IsFormula (lexemes_of text) a → IsFaultless text → ReadsAs text a
+faultless-reads text a tree none = (faultless-fine formulas (lexemes_of text) (no-fault text none) (a, tree), tree)
 
 pub reads-back : (a : Formula) → HasNames a → ReadsBack a
 reads-back a names = record {
   tree = text-reads a names;
-  fine = λ low. fine (text_of a) a (text-reads a names) low (text-short a names);
+  reads = faultless-reads (text_of a) a (text-reads a names);
 }
 
--- the number of unfinished constructs is told by the tokens so far
-count-unique : (ts : List Lexeme) (i n : ℕ) → i < length ts → HasUnfinished formulas ts i n → n ≡ height (state_behind (take (i + 1) ts))
-count-unique ts i n h has =
-    let us = take (i + 1) ts in
-    sym has.2 ∙ ap (λ counts. slice_index counts i) (counts-are (us ++ has.0) has.1) ∙ heights-at i us has.0 (Need []) (length-take-le (i + 1) ts (omega arith))
-
 -- a text that reads has no fault
-pub one-answer : (text : List ℕ) (a : Formula) → ReadsAs text a → (e : ReadFault) → IsFaultOf text e → e ≡ fault.Memory
-one-answer text a reads (fault.Unexpected at) is =
-    let ts = lexemes_of text in
-    absurd (is.1.2 (drop (is.0 + 1) ts, (a, subst (λ us. IsFormula us a) (sym (take-append-drop (is.0 + 1) ts)) reads.1)))
-one-answer text a reads (fault.Name at) is = absurd (false≢true (sym ((reads.0 is.0 is.1.0).0 End) ∙ is.1.3 End))
-one-answer text a reads (fault.Nested at) is =
-    let ts = lexemes_of text in
-    let low = (reads.0 is.0 is.1.0).1 in
-    let high = is.1.3 in
-    let same = count-unique ts is.0 low.0 is.1.0 low.1 in
-    let other = count-unique ts is.0 high.0 is.1.0 high.1 in
-    absurd (omega (arith, low.2, high.2))
+pub one-answer : (text : List ℕ) → HasOneAnswer text
+one-answer text a reads (fault.Unexpected at) is = absurd (fine-no-fault formulas one-count (lexemes_of text) Unexpected is.0 (reads.0 is.0 is.1.0) is.1)
+one-answer text a reads (fault.Name at) is = absurd (fine-no-fault formulas one-count (lexemes_of text) TooLong is.0 (reads.0 is.0 is.1.0) is.1)
+one-answer text a reads (fault.Nested at) is = absurd (fine-no-fault formulas one-count (lexemes_of text) Nested is.0 (reads.0 is.0 is.1.0) is.1)
 one-answer text a reads fault.Memory is = refl

@@ -7,6 +7,8 @@ mod FirstFaults
 mod SpelledFormulas
 mod LexemeSteps
 mod PrintedTokens
+mod FaultPlaces
 mod FaultlessTexts
+mod LetterNames
 mod TextLengths
 mod PrinterPieces

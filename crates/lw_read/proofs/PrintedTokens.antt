@@ -1,8 +1,6 @@
 -- The bytes of a printed formula, and that its tokens are its spelling.
-use Rattle.std.proofs.Common.{◌≡◌, ℕ, suc, ◌+◌, ◌-◌, ◌==◌, Bool, true, false, ◌&&◌, ◌||◌, inl, inr, not, List, [], ◌∷◌, ◌++◌, length, take, take_while, cond, nat_lt, nat_le, codes, slice_index, refl, sym, ◌∙◌, ap, subst, arith, All}
+use Rattle.std.proofs.Common.{◌≡◌, ℕ, suc, ◌+◌, ◌-◌, ◌==◌, Bool, true, false, ◌&&◌, ◌||◌, inl, inr, not, List, [], ◌∷◌, ◌++◌, length, take, take_while, cond, nat_lt, nat_le, codes, slice_index, refl, sym, ◌∙◌, ap, subst, arith}
 use Rattle.std.proofs.lemmas.List.{append_assoc, append-nil, take_at}
-use Rattle.std.proofs.lemmas.List.Elements.{All-cons, All-nil}
-use Rattle.std.proofs.lemmas.Bool.Decides.{nat_tests}
 use Rattle.std.proofs.lemmas.Bool.{false≢true}
 use Rattle.std.proofs.lemmas.Slice.Eq.{bytes_eq-Decides}
 use Rattle.std.specs.List.{prefix_len, list_all}
@@ -14,7 +12,7 @@ use Rattle.lw_formula.specs.declared.joint.Joint.TheVariants.{And, Or, Imp, Iff}
 use Rattle.lw_read.specs.declared.lexer.Front.{Front}
 use Rattle.lw_read.specs.declared.lexer.TokenKind.TheVariants.{Word, LongWord}
 use Rattle.lw_read.specs.Tokens.{is_space, is_letter, word_front, front_of, symbols, symbol_length}
-use Rattle.lw_read.specs.Lexemes.{Lexeme, Variable, Truth, Falsity, Before, Between, Open, Close, End, Foreign, is_variable, word_lexeme, symbol_lexeme, kind_lexeme, lexemes_of, is_long}
+use Rattle.lw_read.specs.Lexemes.{Lexeme, Variable, Truth, Falsity, Before, Between, Open, Close, End, Foreign, is_variable, word_lexeme, symbol_lexeme, kind_lexeme, lexemes_of}
 use Rattle.lw_read.specs.Grammar.{IsFormula}
 use Rattle.lw_read.specs.Text.{tightness, text_of}
 use Rattle.lw_formula.specs.Variables.{HasNames}
@@ -145,7 +143,6 @@ pub record IsNamed (p : List ℕ) : Type 0 where
   pub low : is_lower (slice_index p 0) ≡ true
   pub word : list_all is_word_byte p ≡ true
   pub free : is_reserved p ≡ false
-  pub short : nat_le (length p) 64 ≡ true
 
 named : (p : List ℕ) → is_name p ≡ true → IsNamed p
 unfolding is_variable
@@ -153,7 +150,7 @@ named p is =
     let both = and_both (is_variable p) (nat_le (length p) 64) (sym (is_name-is p) ∙ is) in
     let parts = and_both (is_lower (slice_index p 0) && list_all is_word_byte p) (not (is_reserved p)) both.0 in
     let begins = and_both (is_lower (slice_index p 0)) (list_all is_word_byte p) parts.0 in
-    record { variable = both.0; low = begins.0; word = begins.1; free = turned (is_reserved p) parts.1; short = both.1 }
+    record { variable = both.0; low = begins.0; word = begins.1; free = turned (is_reserved p) parts.1 }
   where
     turned : (b : Bool) → not b ≡ true → b ≡ false
     turned true h = absurd (false≢true h)
@@ -279,28 +276,3 @@ text-spelled a names =
 -- they read as it
 pub text-reads : (a : Formula) → HasNames a → IsFormula (lexemes_of (text_of a)) a
 text-reads a names = subst (λ ts. IsFormula ts a) (sym (text-spelled a names)) (spelled-reads a 1 (End ∷ []) (tightness-low a))
-
-abbrev pub IsShort : Lexeme → Type 0
-IsShort t = is_long t ≡ false
-
-All-bracketed : (c : Bool) (spell : List Lexeme → List Lexeme) → ((rest : List Lexeme) → All IsShort rest → All IsShort (spell rest)) → (rest : List Lexeme) → All IsShort rest → All IsShort (in_brackets c spell rest)
-All-bracketed true spell is rest all = All-cons IsShort Open _ refl (is (Close ∷ rest) (All-cons IsShort Close rest refl all))
-All-bracketed false spell is rest all = is rest all
-
--- and none of them is too long
-spelled-short : (a : Formula) → HasNames a → (rest : List Lexeme) → All IsShort rest → All IsShort (spelled a rest)
-spelled-short (letter p) names rest all =
-    let short = (named p (names p refl)).short in
-    All-cons IsShort (Variable p) rest (grind (arith, nat_tests)) all
-spelled-short falsum names rest all = All-cons IsShort Falsity rest refl all
-spelled-short verum names rest all = All-cons IsShort Truth rest refl all
-spelled-short (neg a) names rest all = All-cons IsShort (Before Not) _ refl (All-bracketed _ (spelled a) (spelled-short a names) rest all)
-spelled-short (nec a) names rest all = All-cons IsShort (Before Nec) _ refl (All-bracketed _ (spelled a) (spelled-short a names) rest all)
-spelled-short (poss a) names rest all = All-cons IsShort (Before Poss) _ refl (All-bracketed _ (spelled a) (spelled-short a names) rest all)
-spelled-short (conj a b) names rest all = All-bracketed _ (spelled a) (spelled-short a (λ p o. names p (inl o))) _ (All-cons IsShort (Between And) _ refl (All-bracketed _ (spelled b) (spelled-short b (λ p o. names p (inr o))) rest all))
-spelled-short (disj a b) names rest all = All-bracketed _ (spelled a) (spelled-short a (λ p o. names p (inl o))) _ (All-cons IsShort (Between Or) _ refl (All-bracketed _ (spelled b) (spelled-short b (λ p o. names p (inr o))) rest all))
-spelled-short (impl a b) names rest all = All-bracketed _ (spelled a) (spelled-short a (λ p o. names p (inl o))) _ (All-cons IsShort (Between Imp) _ refl (All-bracketed _ (spelled b) (spelled-short b (λ p o. names p (inr o))) rest all))
-spelled-short (equi a b) names rest all = All-bracketed _ (spelled a) (spelled-short a (λ p o. names p (inl o))) _ (All-cons IsShort (Between Iff) _ refl (All-bracketed _ (spelled b) (spelled-short b (λ p o. names p (inr o))) rest all))
-
-pub text-short : (a : Formula) → HasNames a → All IsShort (lexemes_of (text_of a))
-text-short a names = subst (λ ts. All IsShort ts) (sym (text-spelled a names)) (spelled-short a names (End ∷ []) (All-cons IsShort End [] refl (All-nil IsShort)))

@@ -16,6 +16,12 @@ pub record Grammar (A : Type 0) : Type 1 where
 abbrev pub nesting_limit : ℕ
 nesting_limit = 400
 
+-- the kinds of faults, in the order in which a token is looked at for them
+pub data FaultKind : Type 0 where
+  Unexpected : FaultKind
+  TooLong : FaultKind
+  Nested : FaultKind
+
 module _ {A : Type 0} (G : Grammar A) where
   -- some text of the grammar begins with these tokens
   abbrev pub Begins : List A → Type 0
@@ -48,3 +54,21 @@ module _ {A : Type 0} (G : Grammar A) where
   IsNested ts i =
       (i < length ts) × AreFine ts i × HoldsAt (λ t. G.is_long t ≡ false) ts i
       × ((n : ℕ) × HasUnfinished ts i n × (nesting_limit < n))
+
+  -- the first fault is of this kind, at the i-th token
+  abbrev pub HasFirstFault : List A → FaultKind → ℕ → Type 0
+  HasFirstFault ts Unexpected i = IsUnexpected ts i
+  HasFirstFault ts TooLong i = IsTooLong ts i
+  HasFirstFault ts Nested i = IsNested ts i
+
+  -- the tokens have no fault
+  abbrev pub HasNoFirstFault : List A → Type 0
+  HasNoFirstFault ts = (kind : FaultKind) (i : ℕ) → ¬ HasFirstFault ts kind i
+
+  -- the tokens up to one determine how many constructs are unfinished there, however the text goes on
+  abbrev pub HasOneCount : Type 0
+  HasOneCount = (ts : List A) (i n m : ℕ) → i < length ts → HasUnfinished ts i n → HasUnfinished ts i m → n ≡ m
+
+  -- the first fault is of one kind, at one token
+  abbrev pub HasOneFirstFault : List A → Type 0
+  HasOneFirstFault ts = (kind other : FaultKind) (i j : ℕ) → HasFirstFault ts kind i → HasFirstFault ts other j → (kind ≡ other) × (i ≡ j)

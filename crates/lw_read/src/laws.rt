@@ -1,12 +1,21 @@
 ghost use Rattle.std.specs.Prelude.{ℕ, List};
 ghost use Rattle.lw_formula.specs.Formula.{Formula};
-ghost use Rattle.lw_read.specs.Lexemes.{Lexeme};
 ghost use Rattle.lw_formula.specs.Variables.{HasNames};
-ghost use Rattle.lw_read.specs.Laws.{HasOneTree, HasOneAnswer, ReadsBack};
+ghost use Rattle.lw_read.specs.Lexemes.{Lexeme};
+ghost use Rattle.lw_read.specs.Places.{HasOneCount};
+ghost use Rattle.lw_read.specs.Grammar.{formulas, ReadsAs};
+ghost use Rattle.lw_read.specs.Laws.{HasOneTree, HasOneFault, HasOneAnswer, ReadsBack};
 
-/// Law: a text has exactly one tree.
+/// Law: a text has at most one tree.
 pub fn one_tree()
     ensures { (ts : List Lexeme) → HasOneTree ts }
+{}
+
+/// Law: a text has at most one fault, want of memory aside, since the tokens up to one determine how many constructs
+/// are unfinished there. With `one_tree` and `one_answer` the text alone determines its tree or its fault.
+pub fn one_fault()
+    ensures count { HasOneCount formulas }
+    ensures fault { (text : List ℕ) → HasOneFault text }
 {}
 
 /// Law: a text that reads as a formula has no fault.
@@ -14,8 +23,13 @@ pub fn one_answer()
     ensures { (text : List ℕ) → HasOneAnswer text }
 {}
 
-/// Law: a printed text reads back to its tree, where its letters are names and at most 400 constructs are unfinished
-/// at each point.
+/// Law: the printed text of a formula whose letters are names has the formula's tree, and reads back as it where it has
+/// no fault.
 pub fn reads_back()
     ensures { (a : Formula) → HasNames a → ReadsBack a }
+{}
+
+/// Law: the letters of a formula that a text reads as are names.
+pub fn letters_are_names()
+    ensures { (text : List ℕ) (a : Formula) → ReadsAs text a → HasNames a }
 {}
