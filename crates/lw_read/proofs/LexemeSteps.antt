@@ -18,7 +18,7 @@ lexed skipped [] = End ∷ []
 lexed (suc skipped) (b ∷ bytes) = lexed skipped bytes
 lexed zero (b ∷ bytes) = lexed_at (front_of (b ∷ bytes)) (b ∷ bytes) (λ n. lexed (n - 1) bytes)
 
-slice-is : (text bytes : List ℕ) (at n : ℕ) → drop at text ≡ bytes → slice_range text at (at + n) ≡ take n bytes
+pub slice-is : (text bytes : List ℕ) (at n : ℕ) → drop at text ≡ bytes → slice_range text at (at + n) ≡ take n bytes
 slice-is text bytes at n is = let len : at + n - at ≡ n = omega arith in ap (λ m. take m (drop at text)) len ∙ ap (take n) is
 
 -- the bytes that a token's place names are those at the front

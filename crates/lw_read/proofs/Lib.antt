@@ -6,6 +6,8 @@ mod NameTests
 mod FirstFaults
 mod SpelledFormulas
 mod LexemeSteps
+mod TokenTexts
+mod TokensByRule
 mod PrintedTokens
 mod FaultPlaces
 mod FaultlessTexts

@@ -49,7 +49,7 @@ run_fits p b bytes h =
     (omega arith, omega arith)
 
 -- a letter goes on a word
-letter-word : (b : ℕ) → is_letter b ≡ true → is_word_byte b ≡ true
+pub letter-word : (b : ℕ) → is_letter b ≡ true → is_word_byte b ≡ true
 letter-word b h = grind arith
 
 word_fits : (b : ℕ) (bytes : List ℕ) → is_letter b ≡ true → FitsIn (suc (length bytes)) (word_front (take_while is_word_byte (b ∷ bytes)))

@@ -1,4 +1,5 @@
 pub mod Tokens
+pub mod TokenRule
 pub mod Lexemes
 pub mod Places
 pub mod Grammar

@@ -1,10 +1,20 @@
-ghost use Rattle.std.specs.Prelude.{ℕ, List};
+ghost use Rattle.std.specs.Prelude.{◌≡◌, ℕ, List};
 ghost use Rattle.lw_formula.specs.Formula.{Formula};
 ghost use Rattle.lw_formula.specs.Variables.{HasNames};
+ghost use Rattle.lw_read.specs.declared.lexer.Token.{Token};
+ghost use Rattle.lw_read.specs.Tokens.{tokens_of};
+ghost use Rattle.lw_read.specs.TokenRule.{AreTokens};
 ghost use Rattle.lw_read.specs.Lexemes.{Lexeme};
 ghost use Rattle.lw_read.specs.Places.{HasOneCount};
 ghost use Rattle.lw_read.specs.Grammar.{formulas, ReadsAs};
 ghost use Rattle.lw_read.specs.Laws.{HasOneTree, HasOneFault, HasOneAnswer, ReadsBack};
+
+/// Law: the tokens of a text keep the rule of tokens, and no others do. White space and comments part them, each is the
+/// longest that begins at its place, and the last is the end of the text or a byte that begins nothing.
+pub fn token_rule()
+    ensures rule { (text : List ℕ) → AreTokens text (tokens_of text) }
+    ensures only { (text : List ℕ) (tokens : List Token) → AreTokens text tokens → tokens ≡ tokens_of text }
+{}
 
 /// Law: a text has at most one tree.
 pub fn one_tree()

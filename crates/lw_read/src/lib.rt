@@ -13,7 +13,7 @@ mod printer;
 mod reader;
 
 pub use fault::ReadFault;
-pub use laws::{letters_are_names, one_answer, one_fault, one_tree, reads_back};
+pub use laws::{letters_are_names, one_answer, one_fault, one_tree, reads_back, token_rule};
 pub use lexer::{Token, TokenKind, tokens};
 pub use pool_printer::{LONGEST_TEXT, print_formula, write_formula};
 pub use print_fault::PrintFault;
