@@ -1,4 +1,3 @@
-pub mod Place
 pub mod Asked
 pub mod AnswerLines
 pub mod Outcome

@@ -10,8 +10,8 @@ use Rattle.lw_read.specs.Grammar.{ReadsAs, IsFaultOf}
 use Rattle.lw_cli.specs.declared.answer.Answer.{Answer}
 use Rattle.lw_cli.specs.declared.answer.Answer.TheVariants.{FileLimit, Syntax, TooLarge, Yes, No}
 use Rattle.lw_cli.specs.declared.answer.SyntaxWhy.{SyntaxWhy}
-use Rattle.lw_cli.specs.declared.place.Place.{Place}
-use Rattle.lw_cli.specs.Place.{line_at, column_at}
+use Rattle.lw_read.specs.declared.place.Place.{Place}
+use Rattle.lw_read.specs.LinesAndColumns.{line_at, column_at}
 use Rattle.lw_cli.specs.AnswerLines.{line_of, status_of}
 
 -- the greatest number of bytes of a file that is read

@@ -1,7 +1,7 @@
 ghost use Rattle.std.specs.Prelude.{◌≡◌, ◌≤◌, IfOk, string_bytes};
 ghost use Rattle.lw_cli.specs.AnswerLines.{word_of, line_of, status_of};
 
-use crate::place::Place;
+use lw_read::Place;
 use std::alloc::{AllocError, Global};
 
 /// What is wrong at a place of a text.

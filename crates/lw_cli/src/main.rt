@@ -6,7 +6,6 @@ mod answer;
 mod asked;
 mod check_file;
 mod finding;
-mod place;
 mod prove;
 #[cfg(test)]
 mod tests;
@@ -17,7 +16,6 @@ pub use answer::{Answer, SyntaxWhy};
 pub use asked::{Command, FileName};
 pub use finding::Finding;
 use lw_io::{DiskStore, StdSink};
-pub use place::{Place, place_of};
 use std::env;
 use std::io::ErrorKind;
 use std::process::ExitCode;

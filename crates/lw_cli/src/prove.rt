@@ -9,13 +9,12 @@ ghost use Rattle.lw_cli.specs.Headline.{Answers, AnswersPart, IsUnsureOf};
 
 use crate::answer::{Answer, SyntaxWhy};
 use crate::asked::{Command, FileName};
-use crate::place::place_of;
 use lw_counter::Answer as Decision;
 use lw_decide::{DecideFault, decide};
 use lw_formula::{Form, Logic};
 use lw_io::{FetchFault, Sink, Store};
 use lw_pool::Pool;
-use lw_read::{ReadFault, read_formula};
+use lw_read::{ReadFault, place_of, read_formula};
 use std::alloc::{AllocError, Global};
 
 /// The greatest number of bytes of a file that is read.

@@ -2,6 +2,7 @@ pub mod Tokens
 pub mod TokenRule
 pub mod Lexemes
 pub mod Places
+pub mod LinesAndColumns
 pub mod Grammar
 pub mod Laws
 pub mod Text

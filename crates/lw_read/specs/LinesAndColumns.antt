@@ -1,4 +1,4 @@
--- Lines and columns of a text.
+-- The line and the column of a byte of a text, both from 1; a line ends with its line feed, and columns count bytes.
 use Rattle.std.specs.Prelude.{ℕ, ◌+◌, ◌==◌, not, List, length, count_by, reverse, take}
 use Rattle.std.specs.List.{take_while}
 
