@@ -1,15 +1,11 @@
 -- The lengths of texts, and the printer's pieces.
-use Rattle.std.proofs.Common.{◌≡◌, ℕ, ◌+◌, ◌<◌, List, [], ◌∷◌, ◌++◌, length, min, get_or, inl, inr, sym, ◌∙◌, ap, arith, length-append}
-use Rattle.std.proofs.lemmas.List.{get_or_append_left, get_or_push, length_push}
-use Rattle.std.proofs.lemmas.Bool.{cases_lt}
-use Rattle.lw_formula.specs.Formula.{Formula, falsum}
-use Rattle.lw_read.specs.declared.measure.Measure.{Measure}
+use Rattle.std.proofs.Common.{◌≡◌, ℕ, ◌+◌, List, ◌++◌, length, min, ◌∙◌, ap, arith, length-append}
+use Rattle.lw_formula.specs.Formula.{Formula}
 use Rattle.lw_formula.specs.declared.joint.Joint.{Joint}
 use Rattle.lw_formula.specs.declared.joint.Joint.TheVariants.{And, Or, Imp, Iff}
 use Rattle.lw_formula.specs.Joint.{join}
 use Rattle.lw_read.specs.Grammar.{rank}
 use Rattle.lw_read.specs.Text.{text_of, sign_text, operand_text}
-use Rattle.lw_read.specs.Private.TextMeasures.{IsMeasure, AreMeasures}
 
 length-three : (xs ys zs : List ℕ) → length (xs ++ ys ++ zs) ≡ length xs + length ys + length zs
 length-three xs ys zs = length-append (xs ++ ys) zs ∙ ap (λ n. n + length zs) (length-append xs ys)
@@ -19,19 +15,6 @@ join-length And a b = length-three (operand_text 5 a (text_of a)) (sign_text And
 join-length Or a b = length-three (operand_text 4 a (text_of a)) (sign_text Or) (operand_text 3 b (text_of b))
 join-length Imp a b = length-three (operand_text 3 a (text_of a)) (sign_text Imp) (operand_text 2 b (text_of b))
 join-length Iff a b = length-three (operand_text 2 a (text_of a)) (sign_text Iff) (operand_text 1 b (text_of b))
-
-pub AreMeasures-push : (most : ℕ) (ts : List Formula) (ms new : List Measure) (i : ℕ) (m : Measure) (a : Formula) → (length ms ≡ i) × AreMeasures most ts ms → IsMeasure most a m → a ≡ get_or ts i falsum → new ≡ ms ++ m ∷ [] → (length new ≡ i + 1) × AreMeasures most ts new
-AreMeasures-push most ts ms new i m a known here at is = rw is (rw (length_push ms m) (omega arith), each)
-  where
-    each : (k : ℕ) (d : Measure) → k < length (ms ++ m ∷ []) → IsMeasure most (get_or ts k falsum) (get_or (ms ++ m ∷ []) k d)
-    each k d h = elim (cases_lt k (length ms)) [
-      | inl low ↦ rw (get_or_append_left ms (m ∷ []) d k low) (known.1 k d low)
-      | inr high ↦
-          let top : k ≡ length ms = omega (arith, length_push ms m) in
-          let same : get_or (ms ++ m ∷ []) k d ≡ m = get_or_push ms m d k (sym top) in
-          let tree : get_or ts k falsum ≡ a = ap (λ n. get_or ts n falsum) (top ∙ known.0) ∙ sym at in
-          rw (same, tree) here
-    ]
 
 -- a sum of which each part and each sum is cut at the most is the whole sum, cut there
 pub sum-min : (x s y m p q r t w : ℕ) → p ≡ min x m → q ≡ min y m → r ≡ min (p + s) m → t ≡ min (r + q) m → w ≡ x + s + y → t ≡ min w m

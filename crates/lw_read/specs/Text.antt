@@ -1,21 +1,19 @@
 -- The printed text of a formula: the fewest brackets with which it reads back.
-use Rattle.std.specs.Prelude.{ℕ, nat_lt, if◌then◌else◌, List, ◌++◌, codes}
+use Rattle.std.specs.Prelude.{ℕ, nat_lt, if◌then◌else◌, Option, Some, None, List, ◌++◌, codes}
 use Rattle.lw_formula.specs.declared.joint.Joint.{Joint}
 use Rattle.lw_formula.specs.declared.joint.Joint.TheVariants.{And, Or, Imp, Iff}
+use Rattle.lw_formula.specs.Joint.{joint_of}
+use Rattle.lw_read.specs.Grammar.{rank}
 use Rattle.lw_formula.specs.Formula.{Formula, letter, falsum, verum, neg, conj, disj, impl, equi, nec, poss}
 
--- how tightly the main connective of a formula binds: `<->` least, `&` most, and 5 where it has none
+-- how tightly a connective between two operands binds, by its level in the grammar; 5 where there is none
+abbrev pub tightness_of : Option Joint → ℕ
+tightness_of (Some sign) = rank sign
+tightness_of None = 5
+
+-- how tightly a formula binds, by its main connective
 abbrev pub tightness : Formula → ℕ
-tightness (equi a b) = 1
-tightness (impl a b) = 2
-tightness (disj a b) = 3
-tightness (conj a b) = 4
-tightness (letter p) = 5
-tightness falsum = 5
-tightness verum = 5
-tightness (neg a) = 5
-tightness (nec a) = 5
-tightness (poss a) = 5
+tightness a = tightness_of (joint_of a)
 
 -- a connective with the spaces round it
 abbrev pub sign_text : Joint → List ℕ

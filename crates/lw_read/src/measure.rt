@@ -1,14 +1,15 @@
-ghost use Rattle.std.specs.Prelude.{◌≡◌, ◌+◌, List, length, min, IfOk};
+ghost use Rattle.std.specs.Prelude.{◌≡◌, ◌+◌, length, min, IfOk, ⊤};
+ghost use Rattle.std.below.core.specs.declared.int.usize.TheConstants.{MAX};
 ghost use Rattle.lw_formula.specs.Formula.{Formula};
-ghost use Rattle.lw_pool.specs.Region.{tree_at, tree_of_node, IsLive, AreChildrenBelow};
+ghost use Rattle.lw_pool.specs.Region.{tree_at, IsLive};
 ghost use Rattle.lw_formula.specs.Joint.{join};
 ghost use Rattle.lw_read.specs.Grammar.{rank};
 ghost use Rattle.lw_read.specs.Text.{text_of, operand_text, modal_operand_text};
-ghost use Rattle.lw_read.specs.Private.TextMeasures.{IsMeasure, AreMeasures};
+ghost use Rattle.lw_read.specs.Private.TextMeasures.{IsMeasure};
 
 use crate::lexeme::{rank, sign_text};
 use lw_formula::Joint;
-use lw_pool::{FormId, Node, Pool};
+use lw_pool::{FormId, Node, Pool, Step, fold};
 use std::alloc::{AllocError, Global};
 
 /// The length of a formula's text, or the greatest `usize` where it is longer, and how tightly it binds.
@@ -24,30 +25,47 @@ pub fn text_length(alloc: Global, pool: &Pool, id: FormId) -> Result<usize, Allo
     requires { IsLive pool.now id }
     ensures { IfOk result (λ len. len ≡ min (length (text_of (tree_at pool.now id))) usize.MAX) }
 {
-    let mut measures = Vec::with_capacity(alloc, id.0)?;
-    for at in 0..id.0 {
-        let measure = node_measure(&measures, pool.node(FormId(at)));
-        measures.push(measure)?;
-    }
-    Ok(node_measure(&measures, pool.node(id)).length)
+    let mut pool = pool;
+    let measure = fold(alloc, &mut pool, id, &TextMeasure)?;
+    Ok(measure.length)
 }
 
-// The measure of a node's formula, from those of the formulas below it.
-fn node_measure(measures: &[Measure], node: &Node) -> Measure
-    requires { AreChildrenBelow (length measures.now) node.now }
-    ensures { (ts : List Formula) → AreMeasures usize.MAX ts measures.now
-        → IsMeasure usize.MAX (tree_of_node ts node.now) result }
-{
-    match node {
-        Node::Var(name) => leaf(name.as_bytes().len()),
-        Node::Bot => leaf(5),
-        Node::Top => leaf(4),
-        Node::Not(a) => prefixed(1, operand_length(measures[a.0], 5)),
-        Node::Nec(a) | Node::Poss(a) => prefixed(3, modal_operand_length(measures[a.0])),
-        Node::And(a, b) => joined(Joint::And, measures[a.0], measures[b.0]),
-        Node::Or(a, b) => joined(Joint::Or, measures[a.0], measures[b.0]),
-        Node::Imp(a, b) => joined(Joint::Imp, measures[a.0], measures[b.0]),
-        Node::Iff(a, b) => joined(Joint::Iff, measures[a.0], measures[b.0]),
+/// The walk that measures texts.
+#[derive(Drop)]
+struct TextMeasure;
+
+impl<'a> Step<&'a Pool> for TextMeasure {
+    type Out = Measure;
+
+    ghost is_right = { λ _ _ a measure. IsMeasure MAX a measure };
+
+    ghost suits = { λ _ _. ⊤ };
+
+    ghost suits_on = { λ _ _ _ _ suits. suits };
+
+    ghost lasts = { λ _ _ _ _ _ _ _ right. right };
+
+    fn blank(&self) -> Measure {
+        leaf(0)
+    }
+
+    fn step(
+        &self,
+        pool: &mut &'a Pool,
+        at: FormId,
+        done: &[Measure],
+    ) -> Result<Measure, AllocError> {
+        Ok(match pool.node(at) {
+            Node::Var(name) => leaf(name.as_bytes().len()),
+            Node::Bot => leaf(5),
+            Node::Top => leaf(4),
+            Node::Not(a) => prefixed(1, operand_length(done[a.0], 5)),
+            Node::Nec(a) | Node::Poss(a) => prefixed(3, modal_operand_length(done[a.0])),
+            Node::And(a, b) => joined(Joint::And, done[a.0], done[b.0]),
+            Node::Or(a, b) => joined(Joint::Or, done[a.0], done[b.0]),
+            Node::Imp(a, b) => joined(Joint::Imp, done[a.0], done[b.0]),
+            Node::Iff(a, b) => joined(Joint::Iff, done[a.0], done[b.0]),
+        })
     }
 }
 

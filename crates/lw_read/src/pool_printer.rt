@@ -1,13 +1,14 @@
 ghost use Rattle.std.specs.Prelude.{◌≡◌, ◌+◌, ◌++◌, ◌∷◌, ◌<◌, ◌≤◌, [], List, length, IfOk, OnOk, IsErrOf, codes};
 ghost use Rattle.lw_formula.specs.Formula.{Formula};
-ghost use Rattle.lw_pool.specs.Region.{tree_at, tree_of_node, IsLive};
-ghost use Rattle.lw_read.specs.Text.{text_of, tightness};
+ghost use Rattle.lw_pool.specs.Region.{tree_at, IsLive};
+ghost use Rattle.lw_read.specs.Text.{text_of};
 ghost use Rattle.lw_read.specs.Grammar.{rank};
 ghost use Rattle.lw_read.specs.Private.PrinterPieces.{IsLivePiece, WritesPiece, node_head, node_tail};
 
 use crate::lexeme::{rank, sign_text};
 use crate::measure::text_length;
 use crate::print_fault::PrintFault;
+use crate::printer::tightness;
 use lw_formula::Joint;
 use lw_pool::{FormId, Node, Pool};
 use std::alloc::{AllocError, Global};
@@ -78,7 +79,7 @@ fn write_piece(
     match piece {
         Piece::Operand(id, least) => {
             let node = pool.node(id);
-            if tightness(node) < least {
+            if tightness(node.joint()) < least {
                 write_bracketed(node, out, stack)?;
             } else {
                 write_node(node, out, stack)?;
@@ -86,7 +87,7 @@ fn write_piece(
         }
         Piece::ModalOperand(id) => {
             let node = pool.node(id);
-            if tightness(node) < 5 {
+            if tightness(node.joint()) < 5 {
                 write_bracketed(node, out, stack)?;
             } else {
                 out.push(b' ')?;
@@ -153,19 +154,6 @@ fn push_operands(
     stack.push(Piece::Sign(sign))?;
     stack.push(Piece::Operand(left, rank(sign) + 1))?;
     Ok(())
-}
-
-// How tightly the main connective binds, or 5 where there is none.
-fn tightness(node: &Node) -> u8
-    ensures { (ts : List Formula) → result ≡ tightness (tree_of_node ts node.now) }
-{
-    match node {
-        Node::Iff(_, _) => 1,
-        Node::Imp(_, _) => 2,
-        Node::Or(_, _) => 3,
-        Node::And(_, _) => 4,
-        Node::Var(_) | Node::Bot | Node::Top | Node::Not(_) | Node::Nec(_) | Node::Poss(_) => 5,
-    }
 }
 
 #[cfg(test)]

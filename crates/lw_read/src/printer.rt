@@ -1,8 +1,9 @@
 ghost use Rattle.std.specs.Prelude.{◌≡◌, ◌++◌, IfOk, OnOk, codes};
 ghost use Rattle.lw_formula.specs.Tree.{tree_of};
-ghost use Rattle.lw_read.specs.Text.{text_of, tightness, operand_text, modal_operand_text};
+ghost use Rattle.lw_read.specs.Text.{text_of, tightness_of, operand_text, modal_operand_text};
 
-use lw_formula::Form;
+use crate::lexeme::rank;
+use lw_formula::{Form, Joint};
 use std::alloc::{AllocError, Global};
 
 /// The text of a formula, with the fewest brackets with which it reads back. It fails for want of memory alone.
@@ -64,7 +65,7 @@ fn write_operand(out: &mut Vec<u8>, operand: &Form, least: u8) -> Result<(), All
     ensures { OnOk result (out.new.items
         ≡ out.old.items ++ operand_text least (tree_of operand.now) (text_of (tree_of operand.now))) }
 {
-    if tightness(operand) < least {
+    if tightness(operand.joint()) < least {
         write_bracketed(out, operand)?;
     } else {
         write_form(out, operand)?;
@@ -78,7 +79,7 @@ fn write_modal_operand(out: &mut Vec<u8>, operand: &Form) -> Result<(), AllocErr
     ensures { OnOk result (out.new.items
         ≡ out.old.items ++ modal_operand_text (tree_of operand.now) (text_of (tree_of operand.now))) }
 {
-    if tightness(operand) < 5 {
+    if tightness(operand.joint()) < 5 {
         write_bracketed(out, operand)?;
     } else {
         out.push(b' ')?;
@@ -97,15 +98,13 @@ fn write_bracketed(out: &mut Vec<u8>, form: &Form) -> Result<(), AllocError>
     Ok(())
 }
 
-// How tightly the main connective binds, or 5 where there is none.
-fn tightness(form: &Form) -> u8
-    ensures { result ≡ tightness (tree_of form.now) }
+/// How tightly a formula binds with this main connective: 1 for `<->` to 4 for `&`, and 5 where there is none between two
+/// operands.
+pub fn tightness(joint: Option<Joint>) -> u8
+    ensures { result ≡ tightness_of joint }
 {
-    match form {
-        Form::Iff(_, _) => 1,
-        Form::Imp(_, _) => 2,
-        Form::Or(_, _) => 3,
-        Form::And(_, _) => 4,
-        Form::Var(_) | Form::Bot | Form::Top | Form::Not(_) | Form::Nec(_) | Form::Poss(_) => 5,
+    match joint {
+        Some(sign) => rank(sign),
+        None => 5,
     }
 }
