@@ -7,7 +7,8 @@ use Rattle.lw_formula.specs.declared.joint.Joint.{Joint}
 use Rattle.lw_formula.specs.declared.joint.Joint.TheVariants.{And, Or, Imp, Iff}
 use Rattle.lw_read.specs.Lexemes.{Lexeme, Between, Close, End}
 use Rattle.lw_read.specs.Grammar.{rank, Reads, variable, truth, falsity, prefixed, bracketed, joined, unfinished, IsFormula, formulas}
-use Rattle.lw_read.specs.Private.FormulaMachine.{Frame, Awaiting, Left, Bracket, State, Need, Have, Over, frame_rank, finish, reduce, take_left, close, stop, step, run, height}
+use Rattle.lw_read.specs.Machine as machine
+use Rattle.lw_read.specs.Private.FormulaMachine.{Frame, Awaiting, Left, Bracket, State, Need, Have, Over, frame_rank, finish, reduce, take_left, close, stop, formula_machine, step, run, height}
 
 pub rank-low : (o : Joint) → 1 ≤ rank o
 rank-low And = omega arith
@@ -78,8 +79,7 @@ swallow f a fs (t ∷ ts) low ends = ap (run ts) (swallow_one f a fs t low ends)
 
 -- the number of unfinished constructs behind each token
 abbrev pub heights : List Lexeme → State → List ℕ
-heights [] s = []
-heights (t ∷ ts) s = height (step t s) ∷ heights ts (step t s)
+heights = machine.heights formula_machine
 
 swallow_heights : (f : Frame) (a : Formula) (fs : List Frame) (ts : List Lexeme) → 0 < frame_rank f → Ends (frame_rank f) ts → heights ts (Have a (f ∷ fs)) ≡ heights ts (Have (finish f a) fs)
 swallow_heights f a fs [] low ends = absurd ends

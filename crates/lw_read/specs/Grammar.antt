@@ -6,7 +6,7 @@
 --     Con  := Pre [ "&" Con ]
 --     Pre  := "~" Pre | "box" Pre | "dia" Pre | Atom
 --     Atom := "true" | "false" | variable | "(" Equ ")"
-use Rattle.std.specs.Prelude.{◌≡◌, ℕ, suc, ◌+◌, ◌≤◌, List, [], ◌∷◌, ◌++◌, length, map, slice_index}
+use Rattle.std.specs.Prelude.{◌≡◌, ℕ, suc, ◌+◌, ◌≤◌, List, [], ◌∷◌, ◌++◌, length, map}
 use Rattle.lw_formula.specs.Formula.{Formula, letter, falsum, verum, neg, nec, poss}
 use Rattle.lw_formula.specs.Joint.{join}
 use Rattle.lw_read.specs.declared.lexeme.Prefix.{Prefix}
@@ -15,9 +15,11 @@ use Rattle.lw_formula.specs.declared.joint.Joint.{Joint}
 use Rattle.lw_formula.specs.declared.joint.Joint.TheVariants.{And, Or, Imp, Iff}
 use Rattle.lw_read.specs.declared.fault.ReadFault.{ReadFault}
 use Rattle.lw_read.specs.declared.fault.ReadFault.TheVariants.{Unexpected, Nested, Name, Memory}
-use Rattle.lw_read.specs.Tokens.{tokens_of}
-use Rattle.lw_read.specs.Lexemes.{Lexeme, Variable, Truth, Falsity, Before, Between, Open, Close, End, lexemes_of, is_long}
+use Rattle.lw_read.specs.declared.text_fault.TextFault.{TextFault}
+use Rattle.lw_read.specs.declared.text_fault.TextFault.TheVariants as text
+use Rattle.lw_read.specs.Lexemes.{Lexeme, Variable, Truth, Falsity, Before, Between, Open, Close, End, lexeme_of, lexemes_of, is_long}
 use Rattle.lw_read.specs.Places.{Grammar, AreFine, IsUnexpected, IsTooLong, IsNested}
+use Rattle.lw_read.specs.Language.{Language, grammar_of, start_of}
 
 -- the level of the grammar at which the connective stands: 1 for Equ to 4 for Con; 5 is Pre
 abbrev pub rank : Joint → ℕ
@@ -60,21 +62,22 @@ unfinished (joined sign fits is left right) = unfinished left ++ (1 ∷ map suc 
 abbrev pub IsFormula : List Lexeme → Formula → Type 0
 IsFormula ts a = Reads 1 ts a (End ∷ [])
 
--- the grammar of formulas; at the end of a text nothing is unfinished
-abbrev pub formulas : Grammar Lexeme
-formulas = record {
-  IsText = λ ts. (a : Formula) × IsFormula ts a;
-  counts = λ ts text. unfinished text.1 ++ (0 ∷ []);
+-- the language of formulas; at the end of a text nothing is unfinished
+abbrev pub formula_language : Language Lexeme Formula
+formula_language = record {
+  lexeme_of = lexeme_of;
+  IsText = IsFormula;
+  counts = λ ts a text. unfinished text ++ (0 ∷ []);
   is_long = is_long;
 }
+
+-- the grammar of formulas
+abbrev pub formulas : Grammar Lexeme
+formulas = grammar_of formula_language
 
 -- the text has no fault, and this tree
 abbrev pub ReadsAs : List ℕ → Formula → Type 0
 ReadsAs text a = AreFine formulas (lexemes_of text) (length (lexemes_of text)) × IsFormula (lexemes_of text) a
-
--- the byte, from 0, at which the i-th token of a text begins
-abbrev pub start_of : List ℕ → ℕ → ℕ
-start_of text i = slice_index (map (λ t. t.start) (tokens_of text)) i
 
 -- the fault is the first one of the text, at the first byte of its token
 abbrev pub IsFaultOf : List ℕ → ReadFault → Type 0
@@ -82,3 +85,10 @@ IsFaultOf text (Unexpected at) = (i : ℕ) × IsUnexpected formulas (lexemes_of 
 IsFaultOf text (Name at) = (i : ℕ) × IsTooLong formulas (lexemes_of text) i × (at ≡ start_of text i)
 IsFaultOf text (Nested at) = (i : ℕ) × IsNested formulas (lexemes_of text) i × (at ≡ start_of text i)
 IsFaultOf text Memory = Unit {0}
+
+-- the fault of a formula's text
+abbrev pub read_fault : TextFault → ReadFault
+read_fault (text.Unexpected token) = Unexpected token.start
+read_fault (text.TooLong token) = Name token.start
+read_fault (text.Nested token) = Nested token.start
+read_fault text.Memory = Memory

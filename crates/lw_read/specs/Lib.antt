@@ -3,6 +3,8 @@ pub mod TokenRule
 pub mod Lexemes
 pub mod Places
 pub mod LinesAndColumns
+pub mod Language
+pub mod Machine
 pub mod Grammar
 pub mod Laws
 pub mod Text

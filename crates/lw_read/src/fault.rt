@@ -1,7 +1,6 @@
 ghost use Rattle.std.specs.Prelude.{◌≡◌};
-ghost use Rattle.lw_read.specs.declared.fault.ReadFault.TheVariants.{Memory};
 
-use std::alloc::AllocError;
+use crate::text_fault::TextFault;
 use thiserror::Error;
 
 /// Why a text is no formula: the fault of the first token that has one, at the token's first byte, from 0, or at the
@@ -22,10 +21,17 @@ pub enum ReadFault {
     Memory,
 }
 
-impl From<AllocError> for ReadFault {
-    ghost from_gives = { λ _ e. e ≡ Memory };
+impl From<TextFault> for ReadFault {
+    ghost use Rattle.lw_read.specs.Grammar.{read_fault};
 
-    fn from(_error: AllocError) -> Self {
-        ReadFault::Memory
+    ghost from_gives = { λ fault gives. gives ≡ read_fault fault };
+
+    fn from(fault: TextFault) -> Self {
+        match fault {
+            TextFault::Unexpected { token } => ReadFault::Unexpected { at: token.start },
+            TextFault::TooLong { token } => ReadFault::Name { at: token.start },
+            TextFault::Nested { token } => ReadFault::Nested { at: token.start },
+            TextFault::Memory => ReadFault::Memory,
+        }
     }
 }

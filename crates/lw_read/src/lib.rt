@@ -12,6 +12,8 @@ mod pool_printer;
 mod print_fault;
 mod printer;
 mod reader;
+mod text;
+mod text_fault;
 
 pub use fault::ReadFault;
 pub use laws::{letters_are_names, one_answer, one_fault, one_tree, reads_back, token_rule};
@@ -21,3 +23,5 @@ pub use pool_printer::{LONGEST_TEXT, print_formula, write_formula};
 pub use print_fault::PrintFault;
 pub use printer::print_form;
 pub use reader::read_formula;
+pub use text::{NESTING_LIMIT, TextReader, read_text};
+pub use text_fault::TextFault;

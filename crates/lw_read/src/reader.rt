@@ -1,24 +1,22 @@
-ghost use Rattle.std.specs.Prelude.{◌≡◌, ℕ, ◌≤◌, nat_lt, false, List, length, IfOk, IfErr, OnOk, ◌∷◌};
+ghost use Rattle.std.specs.Prelude.{◌≡◌, ℕ, false, List, IfOk, IfErr, OnOk, ◌∷◌};
 ghost use Rattle.std.specs.List.{list_all};
 ghost use Rattle.lw_formula.specs.Formula.{Formula};
 ghost use Rattle.lw_formula.specs.Joint.{join};
 ghost use Rattle.lw_formula.specs.Tree.{tree_of};
 ghost use Rattle.lw_formula.specs.Name.{is_word_byte};
-ghost use Rattle.lw_read.specs.Tokens.{tokens_of};
-ghost use Rattle.lw_read.specs.Lexemes.{lexeme_of, other_lexeme, is_long};
-ghost use Rattle.lw_read.specs.Places.{nesting_limit};
-ghost use Rattle.lw_read.specs.Grammar.{apply, ReadsAs, IsFaultOf};
-ghost use Rattle.lw_read.specs.Private.FormulaMachine.{Frame, State, finish, frame_rank, reduce, begin, go_on, step, height};
-ghost use Rattle.lw_read.specs.Private.ReaderViews.{lexeme, frame, frames, top_rank, state, IsShortVariable, Keeps, Refuses};
+ghost use Rattle.lw_read.specs.Lexemes.{Lexeme, other_lexeme, is_long};
+ghost use Rattle.lw_read.specs.Grammar.{apply, formula_language, ReadsAs, IsFaultOf};
+ghost use Rattle.lw_read.specs.Machine.{Refuses};
+ghost use Rattle.lw_read.specs.Private.FormulaMachine.{Frame, State, finish, frame_rank, reduce, begin, go_on, formula_machine};
+ghost use Rattle.lw_read.specs.Private.ReaderViews.{lexeme, frame, frames, top_rank, state, IsShortVariable};
 
 use crate::fault::ReadFault;
 use crate::lexeme::{Part, Prefix, part_of, rank};
-use crate::lexer::{Token, is_word_byte, tokens};
+use crate::lexer::{Token, is_word_byte};
+use crate::text::{TextReader, read_text};
+use crate::text_fault::TextFault;
 use lw_formula::{Form, Joint, Name, NameFault};
 use std::alloc::{AllocError, Global};
-
-/// How many constructs may be unfinished at once.
-const NESTING_LIMIT: usize = 400;
 
 /// The most bytes of a name.
 const LONGEST_NAME: usize = 64;
@@ -37,6 +35,13 @@ pub enum Progress {
     Needed,
     Operand(Form),
     Over(Form),
+}
+
+/// What the tokens so far leave open, and the constructs that wait, the innermost last.
+#[derive(Drop)]
+struct FormulaReader {
+    progress: Progress,
+    stack: Vec<Unfinished>,
 }
 
 // The level of the expression that the construct ends as.
@@ -141,19 +146,19 @@ fn is_word(bytes: &[u8]) -> bool
 }
 
 // The variable that the word is.
-fn named(alloc: Global, word: &[u8], at: usize) -> Result<Form, ReadFault>
+fn named(alloc: Global, word: &[u8], token: Token) -> Result<Form, TextFault>
     ensures ok { IfOk result (λ form. IsShortVariable word.now (tree_of form)) }
-    ensures fault { IfErr result (λ fault. (fs : List Frame)
-        → Refuses (begin (other_lexeme word.now) fs) (other_lexeme word.now) at fault) }
+    ensures fault { IfErr result (λ fault. (fs : List Frame) → let t = other_lexeme word.now in
+        Refuses formula_language formula_machine t (begin t fs) token fault) }
 {
     match Name::from_bytes(alloc, word) {
         Ok(name) => Ok(Form::Var(name)),
-        Err(NameFault::Memory) => Err(ReadFault::Memory),
+        Err(NameFault::Memory) => Err(TextFault::Memory),
         Err(NameFault::BadName) => {
             if is_long_variable(word) {
-                Err(ReadFault::Name { at })
+                Err(TextFault::TooLong { token })
             } else {
-                Err(ReadFault::Unexpected { at })
+                Err(TextFault::Unexpected { token })
             }
         }
     }
@@ -164,16 +169,16 @@ fn begun(
     alloc: Global,
     part: Part,
     bytes: &[u8],
-    at: usize,
+    token: Token,
     stack: &mut Vec<Unfinished>,
-) -> Result<Progress, ReadFault>
+) -> Result<Progress, TextFault>
     ensures ok { IfOk result (λ progress. let t = lexeme part bytes.now in
         (state progress (frames stack.new.items) ≡ begin t (frames stack.old.items)) × (is_long t ≡ false)) }
     ensures fault { IfErr result (λ fault. let t = lexeme part bytes.now in
-        Refuses (begin t (frames stack.old.items)) t at fault) }
+        Refuses formula_language formula_machine t (begin t (frames stack.old.items)) token fault) }
 {
     match part {
-        Part::Word => Ok(Progress::Operand(named(alloc, bytes, at)?)),
+        Part::Word => Ok(Progress::Operand(named(alloc, bytes, token)?)),
         Part::Truth => Ok(Progress::Operand(Form::Top)),
         Part::Falsity => Ok(Progress::Operand(Form::Bot)),
         Part::Before(sign) => {
@@ -185,7 +190,7 @@ fn begun(
             Ok(Progress::Needed)
         }
         Part::Between(_) | Part::Close | Part::End | Part::Foreign => {
-            Err(ReadFault::Unexpected { at })
+            Err(TextFault::Unexpected { token })
         }
     }
 }
@@ -194,15 +199,16 @@ fn begun(
 fn gone_on(
     alloc: Global,
     part: Part,
-    at: usize,
+    token: Token,
     operand: Form,
     stack: &mut Vec<Unfinished>,
-) -> Result<Progress, ReadFault>
+) -> Result<Progress, TextFault>
     ensures ok { IfOk result (λ progress. (bytes : List ℕ) → let t = lexeme part bytes in
         (state progress (frames stack.new.items) ≡ go_on t (tree_of operand) (frames stack.old.items))
         × (is_long t ≡ false)) }
     ensures fault { IfErr result (λ fault. (bytes : List ℕ) → let t = lexeme part bytes in
-        Refuses (go_on t (tree_of operand) (frames stack.old.items)) t at fault) }
+        let s = go_on t (tree_of operand) (frames stack.old.items) in
+        Refuses formula_language formula_machine t s token fault) }
 {
     match part {
         Part::Between(sign) => {
@@ -214,7 +220,7 @@ fn gone_on(
             let inner = reduced(alloc, 0, operand, stack)?;
             match stack.pop() {
                 Some(Unfinished::Bracket) => Ok(Progress::Operand(inner)),
-                _ => Err(ReadFault::Unexpected { at }),
+                _ => Err(TextFault::Unexpected { token }),
             }
         }
         Part::End => {
@@ -222,69 +228,60 @@ fn gone_on(
             if stack.is_empty() {
                 Ok(Progress::Over(whole))
             } else {
-                Err(ReadFault::Unexpected { at })
+                Err(TextFault::Unexpected { token })
             }
         }
         Part::Word | Part::Truth | Part::Falsity | Part::Before(_) | Part::Open | Part::Foreign => {
-            Err(ReadFault::Unexpected { at })
+            Err(TextFault::Unexpected { token })
         }
     }
 }
 
-// Whether more constructs are unfinished than may be.
-fn is_nested(progress: &Progress, stack: &[Unfinished]) -> bool
-    ensures { result ≡ nat_lt nesting_limit (height (state progress.now (frames stack.now))) }
-{
-    match progress {
-        Progress::Needed | Progress::Operand(_) => stack.len() > NESTING_LIMIT,
-        Progress::Over(_) => false,
-    }
-}
+impl TextReader for FormulaReader {
+    type Tree = Form;
 
-// Takes a token.
-fn advanced(
-    alloc: Global,
-    text: &[u8],
-    token: Token,
-    progress: Progress,
-    stack: &mut Vec<Unfinished>,
-) -> Result<Progress, ReadFault>
-    requires start { token.start ≤ token.end }
-    requires within { token.end ≤ length text.now }
-    ensures ok { IfOk result (λ next.
-        let t = lexeme_of text.now token in let s = step t (state progress (frames stack.old.items)) in
-        (state next (frames stack.new.items) ≡ s) × Keeps s t) }
-    ensures fault { IfErr result (λ fault.
-        let t = lexeme_of text.now token in let s = step t (state progress (frames stack.old.items)) in
-        Refuses s t token.start fault) }
-{
-    let at = token.start;
-    let bytes = &text[token.start..token.end];
-    let part = part_of(token.kind, bytes);
-    let next = match progress {
-        Progress::Needed => begun(alloc, part, bytes, at, stack)?,
-        Progress::Operand(operand) => gone_on(alloc, part, at, operand, stack)?,
-        Progress::Over(_) => return Err(ReadFault::Unexpected { at }),
-    };
-    if is_nested(&next, stack.as_slice()) {
-        return Err(ReadFault::Nested { at });
-    }
-    Ok(next)
-}
+    ghost Lexeme = { Lexeme };
 
-fn read_tokens(alloc: Global, text: &[u8], tokens: &[Token]) -> Result<Form, ReadFault>
-    requires { tokens.now ≡ tokens_of text.now }
-    ensures formula { IfOk result (λ form. ReadsAs text.now (tree_of form)) }
-    ensures fault { IfErr result (λ fault. IsFaultOf text.now fault) }
-{
-    let mut stack = Vec::new(alloc);
-    let mut progress = Progress::Needed;
-    for token in tokens {
-        progress = advanced(alloc, text, *token, progress, &mut stack)?;
+    ghost Parsed = { Formula };
+
+    ghost State = { State };
+
+    ghost language = { formula_language };
+
+    ghost machine = { formula_machine };
+
+    ghost state = { λ reader. state reader.progress (frames reader.stack.items) };
+
+    ghost parsed = { tree_of };
+
+    fn take(self, alloc: Global, text: &[u8], token: Token) -> Result<Self, TextFault> {
+        let FormulaReader {
+            progress,
+            mut stack,
+        } = self;
+        let bytes = &text[token.start..token.end];
+        let part = part_of(token.kind, bytes);
+        let progress = match progress {
+            Progress::Needed => begun(alloc, part, bytes, token, &mut stack)?,
+            Progress::Operand(operand) => gone_on(alloc, part, token, operand, &mut stack)?,
+            Progress::Over(_) => return Err(TextFault::Unexpected { token }),
+        };
+        Ok(FormulaReader { progress, stack })
     }
-    match progress {
-        Progress::Over(form) => Ok(form),
-        Progress::Needed | Progress::Operand(_) => unreachable!(),
+
+    fn height(&self) -> usize {
+        match self.progress {
+            Progress::Needed | Progress::Operand(_) => self.stack.len(),
+            Progress::Over(_) => 0,
+        }
+    }
+
+    fn finish(self) -> Option<Form> {
+        let FormulaReader { progress, stack: _ } = self;
+        match progress {
+            Progress::Over(form) => Some(form),
+            Progress::Needed | Progress::Operand(_) => None,
+        }
     }
 }
 
@@ -294,8 +291,11 @@ pub fn read_formula(alloc: Global, text: &[u8]) -> Result<Form, ReadFault>
     ensures formula { IfOk result (λ form. ReadsAs text.now (tree_of form)) }
     ensures fault { IfErr result (λ fault. IsFaultOf text.now fault) }
 {
-    let tokens = tokens(alloc, text)?;
-    read_tokens(alloc, text, tokens.as_slice())
+    let reader = FormulaReader {
+        progress: Progress::Needed,
+        stack: Vec::new(alloc),
+    };
+    Ok(read_text(alloc, text, reader)?)
 }
 
 #[cfg(test)]

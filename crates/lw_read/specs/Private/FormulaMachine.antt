@@ -7,6 +7,8 @@ use Rattle.lw_formula.specs.declared.joint.Joint.{Joint}
 use Rattle.lw_read.specs.Lexemes.{Lexeme, Variable, Truth, Falsity, Before, Between, Open, Close, End}
 use Rattle.lw_formula.specs.Joint.{join}
 use Rattle.lw_read.specs.Grammar.{rank, apply}
+use Rattle.lw_read.specs.Machine as machine
+use Rattle.lw_read.specs.Machine.{Machine}
 
 -- a construct that waits for its end: a prefix for its operand, a connective with its left operand for the right one,
 -- an open bracket for the closing one
@@ -77,14 +79,16 @@ step t (Have a fs) = go_on t a fs
 step t (Over a) = Astray
 step t Astray = Astray
 
--- some tokens
-abbrev pub run : List Lexeme → State → State
-run [] s = s
-run (t ∷ ts) s = run ts (step t s)
-
 -- how many constructs are unfinished
 abbrev pub height : State → ℕ
 height (Need fs) = length fs
 height (Have a fs) = length fs
 height (Over a) = 0
 height Astray = 0
+
+abbrev pub formula_machine : Machine Lexeme Formula State
+formula_machine = record { start = Need []; step = step; astray = Astray; over = Over; height = height }
+
+-- some tokens
+abbrev pub run : List Lexeme → State → State
+run = machine.run formula_machine

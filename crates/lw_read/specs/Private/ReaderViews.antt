@@ -1,5 +1,5 @@
 -- What private contracts see of the reader's values.
-use Rattle.std.specs.Prelude.{◌≡◌, ◌≢◌, ℕ, ◌<◌, ◌≤◌, true, false, List, [], ◌∷◌, map, reverse}
+use Rattle.std.specs.Prelude.{◌≡◌, ℕ, false, List, [], ◌∷◌, map, reverse}
 use Rattle.lw_formula.specs.Formula.{Formula, letter}
 use Rattle.lw_formula.specs.Tree.{tree_of}
 use Rattle.lw_read.specs.declared.lexeme.Part.{Part}
@@ -8,11 +8,8 @@ use Rattle.lw_read.specs.declared.reader.Unfinished.{Unfinished}
 use Rattle.lw_read.specs.declared.reader.Unfinished.TheVariants as unfinished
 use Rattle.lw_read.specs.declared.reader.Progress.{Progress}
 use Rattle.lw_read.specs.declared.reader.Progress.TheVariants as progress
-use Rattle.lw_read.specs.declared.fault.ReadFault.{ReadFault}
-use Rattle.lw_read.specs.declared.fault.ReadFault.TheVariants as fault
 use Rattle.lw_read.specs.Lexemes.{Lexeme, Variable, Truth, Falsity, Before, Between, Open, Close, End, Foreign, other_lexeme, is_long}
-use Rattle.lw_read.specs.Places.{nesting_limit}
-use Rattle.lw_read.specs.Private.FormulaMachine.{Frame, Awaiting, Left, Bracket, State, Need, Have, Over, Astray, frame_rank, height}
+use Rattle.lw_read.specs.Private.FormulaMachine.{Frame, Awaiting, Left, Bracket, State, Need, Have, Over, frame_rank}
 
 -- what the part of a text with these bytes is
 abbrev pub lexeme : Part → List ℕ → Lexeme
@@ -50,16 +47,3 @@ pub record IsShortVariable (word : List ℕ) (a : Formula) : Type 0 where
   pub is : other_lexeme word ≡ Variable word
   pub short : is_long (other_lexeme word) ≡ false
   pub tree : a ≡ letter word
-
--- the token has no fault
-pub record Keeps (s : State) (t : Lexeme) : Type 0 where
-  pub on : s ≢ Astray
-  pub short : is_long t ≡ false
-  pub low : height s ≤ nesting_limit
-
--- the token that leads to the state has this fault
-abbrev pub Refuses : State → Lexeme → ℕ → ReadFault → Type 0
-Refuses s t at (fault.Unexpected place) = (s ≡ Astray) × (place ≡ at)
-Refuses s t at (fault.Name place) = (s ≢ Astray) × (is_long t ≡ true) × (place ≡ at)
-Refuses s t at (fault.Nested place) = (s ≢ Astray) × (is_long t ≡ false) × (nesting_limit < height s) × (place ≡ at)
-Refuses s t at fault.Memory = Unit {0}
