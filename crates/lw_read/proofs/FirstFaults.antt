@@ -1,5 +1,5 @@
 -- The machine of formulas reads the language of formulas, so it finds the first fault of a text, or its tree.
-use Rattle.std.proofs.Common.{◌≡◌, ℕ, ◌+◌, ◌<◌, false, true, List, [], ◌∷◌, ◌++◌, length, take, slice_index, ◌⊎◌, inl, inr, refl, sym, ◌∙◌, ap, subst, arith, nat_lt, cond}
+use Rattle.std.proofs.Common.{◌≡◌, ℕ, ◌+◌, ◌<◌, List, [], ◌∷◌, ◌++◌, length, take, slice_index, ◌⊎◌, inl, inr, refl, sym, ◌∙◌, ap, subst, arith}
 use Rattle.std.proofs.lemmas.List.{get_or-map, length-map}
 use Rattle.std.specs.List.{slice_range, HoldsAt}
 use Rattle.lw_formula.specs.Formula.{Formula}
@@ -13,7 +13,7 @@ use Rattle.lw_read.specs.Places.{HasUnfinished}
 use Rattle.lw_read.specs.Language.{start_of, IsFaultIn}
 use Rattle.lw_read.specs.Grammar.{formulas, formula_language, IsFaultOf, read_fault}
 use Rattle.lw_read.specs.Machine.{IsReaderOf, IsDone}
-use Rattle.lw_read.specs.Private.FormulaMachine.{Frame, State, Need, Have, Over, Astray, finish, frame_rank, reduce, stop, step, run, height, formula_machine}
+use Rattle.lw_read.specs.Private.FormulaMachine.{Frame, State, Need, Have, Over, Astray, stop, step, run, height, formula_machine}
 use Rattle.lw_read.proofs.MachineAccepts.{accepted, heights, counts-are}
 use Rattle.lw_read.proofs.MachineSound.{sound, completes}
 use Rattle.lw_read.proofs.TokenByToken as tokens
@@ -23,15 +23,13 @@ abbrev pub state_behind : List Lexeme → State
 state_behind ts = run ts (Need [])
 
 -- the end of the text leaves nothing open
-stop-done : (fs : List Frame) (a : Formula) → IsDone formula_machine (reduce stop 0 a fs)
-stop-done [] a = inr (a, refl)
-stop-done (f ∷ fs) a =
-    let ends = stop-done fs (finish f a) in
-    elim (nat_lt 0 (frame_rank f)) as (λ b. IsDone formula_machine (cond b (reduce stop 0 (finish f a) fs) (stop a (f ∷ fs)))) [ true ↦ ends | false ↦ inl refl ]
+stop-done : (a : Formula) (fs : List Frame) → IsDone formula_machine (stop a fs)
+stop-done a [] = inr (a, refl)
+stop-done a (f ∷ fs) = inl refl
 
 step-end : (s : State) → IsDone formula_machine (step End s)
 step-end (Need fs) = inl refl
-step-end (Have a fs) = stop-done fs a
+step-end (Have a fs) = stop-done _ _
 step-end (Over a) = inl refl
 step-end Astray = inl refl
 

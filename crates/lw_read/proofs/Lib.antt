@@ -2,6 +2,7 @@ mod TokenSteps
 mod MachineAccepts
 mod MachineSound
 pub mod TokenByToken
+pub mod StackedConstructs
 mod NameTests
 mod FirstFaults
 mod SpelledFormulas

@@ -1,11 +1,12 @@
 -- What the machine accepts is a text of the grammar, and whatever it has not refused begins one.
-use Rattle.std.proofs.Common.{◌≡◌, ℕ, ◌+◌, ◌<◌, ◌≤◌, Bool, true, false, List, [], ◌∷◌, cond, nat_lt, refl, sym, ◌∙◌, subst, arith}
-use Rattle.std.proofs.lemmas.Bool.Decides.{nat_tests}
+use Rattle.std.proofs.Common.{◌≡◌, ℕ, ◌+◌, ◌<◌, ◌≤◌, List, [], ◌∷◌, refl, sym, ◌∙◌, subst, arith}
 use Rattle.lw_formula.specs.Formula.{Formula, verum}
 use Rattle.lw_read.specs.Lexemes.{Lexeme, Variable, Truth, Falsity, Before, Between, Open, Close, End}
 use Rattle.lw_formula.specs.Joint.{join}
 use Rattle.lw_read.specs.Grammar.{rank, apply, Reads, variable, truth, falsity, prefixed, bracketed, joined, IsFormula}
-use Rattle.lw_read.specs.Private.FormulaMachine.{Frame, Awaiting, Left, Bracket, State, Need, Have, Over, Astray, frame_rank, finish, reduce, take_left, close, stop, begin, go_on, step, run}
+use Rattle.lw_read.specs.Constructs as stack
+use Rattle.lw_read.specs.Private.FormulaMachine.{Frame, Awaiting, Left, Bracket, State, Need, Have, Over, Astray, frame_rank, finish, formula_constructs, close, stop, begin, go_on, step, run}
+use Rattle.lw_read.proofs.StackedConstructs.{ended-keeps}
 use Rattle.lw_read.proofs.MachineAccepts.{rank-low, rank-high, Fits, Ends, swallow}
 
 -- an expression of a level is one of each looser level
@@ -23,7 +24,7 @@ frame_rank-high (Left sign a) = let high = rank-high sign in omega arith
 frame_rank-high Bracket = omega arith
 
 Fits-five : (fs : List Frame) → Fits 5 fs
-Fits-five [] = tt
+Fits-five [] = omega arith
 Fits-five (f ∷ fs) = frame_rank-high f
 
 -- the tokens of the whole text up to these led to this stack
@@ -50,19 +51,9 @@ ended whole (Awaiting sign) m a fs ts low high op = ((Before sign ∷ op.0, op.1
 ended whole (Left sign b) m a fs ts low high op = ((op.1.0, op.1.1, joined sign (omega arith) refl op.1.2 (looser op.2 (rank sign) high)), op.1.3)
 ended whole Bracket m a fs ts low high op = absurd (omega arith)
 
--- what holds wherever the tighter constructs are ended holds behind `reduce`
-reduced : (P : State → Type 0) (whole : List Lexeme) (go : Formula → List Frame → State) (n : ℕ) (ts : List Lexeme) (fs : List Frame) (m : ℕ) (a : Formula) → n < m → Fits m fs → Operand whole m a fs ts
-    → ((m : ℕ) (a : Formula) (fs : List Frame) → n < m → Fits n fs → Operand whole m a fs ts → P (go a fs)) → P (reduce go n a fs)
-reduced P whole go n ts [] m a lt fits op next = next m a [] lt tt op
-reduced P whole go n ts (f ∷ fs) m a lt fits op next =
-    let Goal : Bool → Type 0 = λ b. nat_lt n (frame_rank f) ≡ b → P (cond b (reduce go n (finish f a) fs) (go a (f ∷ fs))) in
-    elim (nat_lt n (frame_rank f)) as Goal [
-      | true ↦ λ is.
-          let above : n < frame_rank f = grind (arith, nat_tests) in
-          let made = ended whole f m a fs ts (omega arith) fits op in
-          reduced P whole go n ts fs (frame_rank f) (finish f a) above made.1 made.0 next
-      | false ↦ λ is. let below : frame_rank f ≤ n = grind (arith, nat_tests) in next m a (f ∷ fs) lt below op
-    ] refl
+-- the operand that is left once the constructs that bind tighter are ended
+left : (whole : List Lexeme) (n : ℕ) (a : Formula) (fs : List Frame) (ts : List Lexeme) → n < 5 → Operand whole 5 a fs ts → let e = stack.ended formula_constructs n a fs in (k : ℕ) × (n < k) × Fits n e.1 × Operand whole k e.0 e.1 ts
+left whole n a fs ts low op = ended-keeps formula_constructs (λ m b gs. Operand whole m b gs ts) (λ m b f gs. ended whole f m b gs ts) n fs 5 a low (Fits-five fs) op
 
 closes : (whole ts : List Lexeme) (m : ℕ) (a : Formula) (fs : List Frame) → 0 < m → Fits 0 fs → Operand whole m a fs (Close ∷ ts) → Good whole (close a fs) ts
 closes whole ts m a (Bracket ∷ fs) lt fits op = (Open ∷ op.0, op.1, bracketed (looser op.2 1 lt))
@@ -83,10 +74,10 @@ begun whole _ fs ts g = tt
 gone_on : (whole : List Lexeme) (t : Lexeme) (a : Formula) (fs : List Frame) (ts : List Lexeme) → Operand whole 5 a fs (t ∷ ts) → Good whole (go_on t a fs) ts
 gone_on whole (Between o) a fs ts g =
     let high = rank-high o in
-    reduced (λ s. Good whole s ts) whole (take_left o) (rank o) (Between o ∷ ts) fs 5 a (omega arith) (Fits-five fs) g
-    (λ m b gs lt fits op. (op.0, op.1, looser op.2 (rank o + 1) (omega arith), fits))
-gone_on whole Close a fs ts g = reduced (λ s. Good whole s ts) whole close 0 (Close ∷ ts) fs 5 a (omega arith) (Fits-five fs) g (closes whole ts)
-gone_on whole End a fs ts g = reduced (λ s. Good whole s ts) whole stop 0 (End ∷ ts) fs 5 a (omega arith) (Fits-five fs) g (stops whole ts)
+    let l = left whole (rank o) a fs (Between o ∷ ts) (omega arith) g in
+    (l.3.0, l.3.1, looser l.3.2 (rank o + 1) (omega arith), l.2)
+gone_on whole Close a fs ts g = let l = left whole 0 a fs (Close ∷ ts) (omega arith) g in closes whole ts l.0 _ _ l.1 l.2 l.3
+gone_on whole End a fs ts g = let l = left whole 0 a fs (End ∷ ts) (omega arith) g in stops whole ts l.0 _ _ l.1 l.2 l.3
 gone_on whole _ a fs ts g = tt
 
 stepped : (whole : List Lexeme) (s : State) (t : Lexeme) (ts : List Lexeme) → Good whole s (t ∷ ts) → Good whole (step t s) ts
@@ -110,21 +101,21 @@ closers (Bracket ∷ fs) = Close ∷ closers fs
 closers (Awaiting sign ∷ fs) = closers fs
 closers (Left sign a ∷ fs) = closers fs
 
-closers-end : (n : ℕ) (fs : List Frame) → Ends n (closers fs)
-closers-end n [] = tt
-closers-end n (Bracket ∷ fs) = tt
-closers-end n (Awaiting sign ∷ fs) = closers-end n fs
-closers-end n (Left sign a ∷ fs) = closers-end n fs
+closers-end : (n : ℕ) (fs : List Frame) → 0 < n → Ends n (closers fs)
+closers-end n [] low = low
+closers-end n (Bracket ∷ fs) low = low
+closers-end n (Awaiting sign ∷ fs) low = closers-end n fs low
+closers-end n (Left sign a ∷ fs) low = closers-end n fs low
 
 closed : (fs : List Frame) (a : Formula) → (b : Formula) × (run (closers fs) (Have a fs) ≡ Over b)
 closed [] a = (a, refl)
 closed (Bracket ∷ fs) a = closed fs a
 closed (Awaiting sign ∷ fs) a =
     let rest = closed fs (apply sign a) in
-    (rest.0, swallow (Awaiting sign) a fs (closers fs) (omega arith) (closers-end 5 fs) ∙ rest.1)
+    (rest.0, swallow (Awaiting sign) a fs (closers fs) (closers-end 5 fs (omega arith)) ∙ rest.1)
 closed (Left sign b ∷ fs) a =
     let rest = closed fs (join sign b a) in
-    (rest.0, swallow (Left sign b) a fs (closers fs) (rank-low sign) (closers-end (rank sign) fs) ∙ rest.1)
+    (rest.0, swallow (Left sign b) a fs (closers fs) (closers-end (rank sign) fs (rank-low sign)) ∙ rest.1)
 
 -- a state that isn't astray can be completed
 pub completes : (s : State) → (s ≡ Astray → ⊥) → (rest : List Lexeme) × (b : Formula) × (run rest s ≡ Over b)

@@ -5,6 +5,7 @@ pub mod Places
 pub mod LinesAndColumns
 pub mod Language
 pub mod Machine
+pub mod Constructs
 pub mod Grammar
 pub mod Laws
 pub mod Text

@@ -2,6 +2,7 @@
 //! printed reads back.
 #![tactic(auto)]
 
+mod construct;
 mod fault;
 mod laws;
 mod lexeme;
@@ -15,6 +16,7 @@ mod reader;
 mod text;
 mod text_fault;
 
+pub use construct::{Construct, end_tighter};
 pub use fault::ReadFault;
 pub use laws::{letters_are_names, one_answer, one_fault, one_tree, reads_back, token_rule};
 pub use lexer::{Token, TokenKind, tokens};

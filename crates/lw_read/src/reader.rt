@@ -7,9 +7,10 @@ ghost use Rattle.lw_formula.specs.Name.{is_word_byte};
 ghost use Rattle.lw_read.specs.Lexemes.{Lexeme, other_lexeme, is_long};
 ghost use Rattle.lw_read.specs.Grammar.{apply, formula_language, ReadsAs, IsFaultOf};
 ghost use Rattle.lw_read.specs.Machine.{Refuses};
-ghost use Rattle.lw_read.specs.Private.FormulaMachine.{Frame, State, finish, frame_rank, reduce, begin, go_on, formula_machine};
-ghost use Rattle.lw_read.specs.Private.ReaderViews.{lexeme, frame, frames, top_rank, state, IsShortVariable};
+ghost use Rattle.lw_read.specs.Private.FormulaMachine.{Frame, State, begin, go_on, formula_constructs, formula_machine};
+ghost use Rattle.lw_read.specs.Private.ReaderViews.{lexeme, frame, frames, state, IsShortVariable};
 
+use crate::construct::{Construct, end_tighter};
 use crate::fault::ReadFault;
 use crate::lexeme::{Part, Prefix, part_of, rank};
 use crate::lexer::{Token, is_word_byte};
@@ -44,17 +45,6 @@ struct FormulaReader {
     stack: Vec<Unfinished>,
 }
 
-// The level of the expression that the construct ends as.
-fn level(unfinished: &Unfinished) -> u8
-    ensures { result ≡ frame_rank (frame unfinished.now) }
-{
-    match unfinished {
-        Unfinished::Prefixed(_) => 5,
-        Unfinished::Left(sign, _) => rank(*sign),
-        Unfinished::Bracket => 0,
-    }
-}
-
 // The formula of the sign and its operand.
 fn applied(alloc: Global, sign: Prefix, operand: Form) -> Result<Form, AllocError>
     ensures { IfOk result (λ form. tree_of form ≡ apply sign (tree_of operand)) }
@@ -81,24 +71,33 @@ fn joined(alloc: Global, sign: Joint, left: Form, right: Form) -> Result<Form, A
     })
 }
 
-// The formula of the construct and its last operand.
-fn finished(alloc: Global, unfinished: Unfinished, operand: Form) -> Result<Form, AllocError>
-    ensures { IfOk result (λ form. tree_of form ≡ finish (frame unfinished) (tree_of operand)) }
-{
-    match unfinished {
-        Unfinished::Prefixed(sign) => applied(alloc, sign, operand),
-        Unfinished::Left(sign, left) => joined(alloc, sign, left, operand),
-        Unfinished::Bracket => Ok(operand),
-    }
-}
+impl Construct for Unfinished {
+    type Tree = Form;
 
-// The level of the innermost construct, or 0.
-fn top_level(stack: &[Unfinished]) -> u8
-    ensures { result ≡ top_rank (frames stack.now) }
-{
-    match stack.last() {
-        Some(unfinished) => level(unfinished),
-        None => 0,
+    ghost Frame = { Frame };
+
+    ghost Parsed = { Formula };
+
+    ghost constructs = { formula_constructs };
+
+    ghost frame = { frame };
+
+    ghost parsed = { tree_of };
+
+    fn level(&self) -> u8 {
+        match self {
+            Unfinished::Prefixed(_) => 5,
+            Unfinished::Left(sign, _) => rank(*sign),
+            Unfinished::Bracket => 0,
+        }
+    }
+
+    fn finish(self, alloc: Global, operand: Form) -> Result<Form, AllocError> {
+        match self {
+            Unfinished::Prefixed(sign) => applied(alloc, sign, operand),
+            Unfinished::Left(sign, left) => joined(alloc, sign, left, operand),
+            Unfinished::Bracket => Ok(operand),
+        }
     }
 }
 
@@ -108,24 +107,6 @@ fn pushed(stack: &mut Vec<Unfinished>, unfinished: Unfinished) -> Result<(), All
 {
     stack.push(unfinished)?;
     Ok(())
-}
-
-// Ends the constructs that bind tighter than the level.
-fn reduced(
-    alloc: Global,
-    least: u8,
-    mut operand: Form,
-    stack: &mut Vec<Unfinished>,
-) -> Result<Form, AllocError>
-    ensures { IfOk result (λ form. (go : Formula → List Frame → State)
-        → reduce go least (tree_of operand) (frames stack.old.items) ≡ go (tree_of form) (frames stack.new.items)) }
-{
-    'tighter: while top_level(stack.as_slice()) > least {
-        if let Some(unfinished) = stack.pop() {
-            operand = finished(alloc, unfinished, operand)?;
-        }
-    }
-    Ok(operand)
 }
 
 // Whether the word is a variable of too many bytes.
@@ -212,19 +193,19 @@ fn gone_on(
 {
     match part {
         Part::Between(sign) => {
-            let left = reduced(alloc, rank(sign), operand, stack)?;
+            let left = end_tighter(alloc, rank(sign), operand, stack)?;
             pushed(stack, Unfinished::Left(sign, left))?;
             Ok(Progress::Needed)
         }
         Part::Close => {
-            let inner = reduced(alloc, 0, operand, stack)?;
+            let inner = end_tighter(alloc, 0, operand, stack)?;
             match stack.pop() {
                 Some(Unfinished::Bracket) => Ok(Progress::Operand(inner)),
                 _ => Err(TextFault::Unexpected { token }),
             }
         }
         Part::End => {
-            let whole = reduced(alloc, 0, operand, stack)?;
+            let whole = end_tighter(alloc, 0, operand, stack)?;
             if stack.is_empty() {
                 Ok(Progress::Over(whole))
             } else {

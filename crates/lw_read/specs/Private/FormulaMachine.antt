@@ -1,6 +1,6 @@
 -- The machine that reads formulas token by token. Only private contracts speak of it: that it does what the grammar
 -- says is proved.
-use Rattle.std.specs.Prelude.{ℕ, nat_lt, if◌then◌else◌, List, [], ◌∷◌, length}
+use Rattle.std.specs.Prelude.{ℕ, List, [], ◌∷◌, length}
 use Rattle.lw_formula.specs.Formula.{Formula, letter, falsum, verum}
 use Rattle.lw_read.specs.declared.lexeme.Prefix.{Prefix}
 use Rattle.lw_formula.specs.declared.joint.Joint.{Joint}
@@ -9,6 +9,7 @@ use Rattle.lw_formula.specs.Joint.{join}
 use Rattle.lw_read.specs.Grammar.{rank, apply}
 use Rattle.lw_read.specs.Machine as machine
 use Rattle.lw_read.specs.Machine.{Machine}
+use Rattle.lw_read.specs.Constructs.{Constructs, reduce}
 
 -- a construct that waits for its end: a prefix for its operand, a connective with its left operand for the right one,
 -- an open bracket for the closing one
@@ -37,14 +38,8 @@ finish (Awaiting sign) b = apply sign b
 finish (Left sign a) b = join sign a b
 finish Bracket b = b
 
--- ends the constructs that bind tighter than a level, then goes on
-abbrev pub reduce : (Formula → List Frame → State) → ℕ → Formula → List Frame → State
-reduce go level a [] = go a []
-reduce go level a (f ∷ fs) = if nat_lt level (frame_rank f) then reduce go level (finish f a) fs else go a (f ∷ fs)
-
--- a connective takes what is there as its left operand
-abbrev pub take_left : Joint → Formula → List Frame → State
-take_left sign a fs = Need (Left sign a ∷ fs)
+abbrev pub formula_constructs : Constructs Frame Formula
+formula_constructs = record { rank = frame_rank; finish = finish }
 
 -- a closing bracket ends the innermost open one
 abbrev pub close : Formula → List Frame → State
@@ -65,12 +60,21 @@ begin (Before sign) fs = Need (Awaiting sign ∷ fs)
 begin Open fs = Need (Bracket ∷ fs)
 begin _ fs = Astray
 
+-- how tightly a token binds that stands behind an operand
+abbrev pub tightness : Lexeme → ℕ
+tightness (Between sign) = rank sign
+tightness _ = 0
+
+-- what a token makes of the operand before it, once the constructs that bind tighter are ended
+abbrev pub follow : Lexeme → Formula → List Frame → State
+follow (Between sign) a fs = Need (Left sign a ∷ fs)
+follow Close a fs = close a fs
+follow End a fs = stop a fs
+follow _ a fs = Astray
+
 -- where an operand is there
 abbrev pub go_on : Lexeme → Formula → List Frame → State
-go_on (Between sign) a fs = reduce (take_left sign) (rank sign) a fs
-go_on Close a fs = reduce close 0 a fs
-go_on End a fs = reduce stop 0 a fs
-go_on _ a fs = Astray
+go_on t a fs = reduce formula_constructs (follow t) (tightness t) a fs
 
 -- one token
 abbrev pub step : Lexeme → State → State

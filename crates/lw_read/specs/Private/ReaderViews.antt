@@ -1,5 +1,5 @@
 -- What private contracts see of the reader's values.
-use Rattle.std.specs.Prelude.{◌≡◌, ℕ, false, List, [], ◌∷◌, map, reverse}
+use Rattle.std.specs.Prelude.{◌≡◌, ℕ, false, List}
 use Rattle.lw_formula.specs.Formula.{Formula, letter}
 use Rattle.lw_formula.specs.Tree.{tree_of}
 use Rattle.lw_read.specs.declared.lexeme.Part.{Part}
@@ -9,7 +9,8 @@ use Rattle.lw_read.specs.declared.reader.Unfinished.TheVariants as unfinished
 use Rattle.lw_read.specs.declared.reader.Progress.{Progress}
 use Rattle.lw_read.specs.declared.reader.Progress.TheVariants as progress
 use Rattle.lw_read.specs.Lexemes.{Lexeme, Variable, Truth, Falsity, Before, Between, Open, Close, End, Foreign, other_lexeme, is_long}
-use Rattle.lw_read.specs.Private.FormulaMachine.{Frame, Awaiting, Left, Bracket, State, Need, Have, Over, frame_rank}
+use Rattle.lw_read.specs.Constructs.{frames_of}
+use Rattle.lw_read.specs.Private.FormulaMachine.{Frame, Awaiting, Left, Bracket, State, Need, Have, Over}
 
 -- what the part of a text with these bytes is
 abbrev pub lexeme : Part → List ℕ → Lexeme
@@ -30,12 +31,7 @@ frame unfinished.Bracket = Bracket
 
 -- the stack has the innermost construct last
 abbrev pub frames : List Unfinished → List Frame
-frames items = reverse (map frame items)
-
--- the level of the innermost construct, or 0
-abbrev pub top_rank : List Frame → ℕ
-top_rank [] = 0
-top_rank (f ∷ fs) = frame_rank f
+frames items = frames_of frame items
 
 abbrev pub state : Progress → List Frame → State
 state progress.Needed fs = Need fs

@@ -1,0 +1,79 @@
+-- What tokens do to the constructs on a machine's stack, at any frames, trees and tokens.
+use Rattle.std.proofs.Common.{◌≡◌, ℕ, suc, ◌+◌, ◌<◌, ◌≤◌, Bool, true, false, List, [], ◌∷◌, map, cond, nat_lt, refl, sym, ◌∙◌, ap, arith}
+use Rattle.std.proofs.lemmas.Bool.Decides.{nat_tests}
+use Rattle.lw_read.specs.Machine.{Machine, run, heights}
+use Rattle.lw_read.specs.Constructs.{Constructs, ended, Fits, reduce}
+
+module _ {F T : Type 0} (C : Constructs F T) where
+  pub Fits-more : (n m : ℕ) (fs : List F) → n ≤ m → Fits C n fs → Fits C m fs
+  Fits-more n m fs le fits = omega arith
+
+  -- one construct is ended
+  ended-next : (n : ℕ) (a : T) (f : F) (fs : List F) → n < C.rank f → ended C n a (f ∷ fs) ≡ ended C n (C.finish f a) fs
+  ended-next n a f fs h = let is : nat_lt n (C.rank f) ≡ true = grind (arith, nat_tests) in ap (λ b. cond b (ended C n (C.finish f a) fs) (a, f ∷ fs)) is
+
+  -- none is
+  ended-none : (n : ℕ) (a : T) (fs : List F) → Fits C n fs → ended C n a fs ≡ (a, fs)
+  ended-none n a [] h = refl
+  ended-none n a (f ∷ fs) h = let is : nat_lt n (C.rank f) ≡ false = grind (arith, nat_tests) in ap (λ b. cond b (ended C n (C.finish f a) fs) (a, f ∷ fs)) is
+
+  -- what holds of an operand as each construct is ended holds of the one that is left
+  pub ended-keeps : (Operand : ℕ → T → List F → Type 0)
+      → ((m : ℕ) (a : T) (f : F) (fs : List F) → 0 < C.rank f → C.rank f ≤ m → Operand m a (f ∷ fs) → Operand (C.rank f) (C.finish f a) fs × Fits C (C.rank f) fs)
+      → (n : ℕ) (fs : List F) (m : ℕ) (a : T) → n < m → Fits C m fs → Operand m a fs
+      → (k : ℕ) × (n < k) × Fits C n (ended C n a fs).1 × Operand k (ended C n a fs).0 (ended C n a fs).1
+  ended-keeps Operand ends n [] m a lt fits op = (m, lt, omega arith, op)
+  ended-keeps Operand ends n (f ∷ fs) m a lt fits op =
+      let Goal : Bool → Type 0 = λ b. nat_lt n (C.rank f) ≡ b → let e = cond b (ended C n (C.finish f a) fs) (a, f ∷ fs) in (k : ℕ) × (n < k) × Fits C n e.1 × Operand k e.0 e.1 in
+      elim (nat_lt n (C.rank f)) as Goal [
+        | true ↦ λ is.
+            let above : n < C.rank f = grind (arith, nat_tests) in
+            let made = ends m a f fs (omega arith) fits op in
+            ended-keeps Operand ends n fs (C.rank f) (C.finish f a) above made.1 made.0
+        | false ↦ λ is. let below : C.rank f ≤ n = grind (arith, nat_tests) in (m, lt, below, op)
+      ] refl
+
+module _ {F T S : Type 0} (C : Constructs F T) (go : T → List F → S) where
+  pub reduce-ends : (n : ℕ) (a : T) (f : F) (fs : List F) → n < C.rank f → reduce C go n a (f ∷ fs) ≡ reduce C go n (C.finish f a) fs
+  reduce-ends n a f fs h = ap (λ (e : T × List F). go e.0 e.1) (ended-next C n a f fs h)
+
+  pub reduce-stays : (n : ℕ) (a : T) (fs : List F) → Fits C n fs → reduce C go n a fs ≡ go a fs
+  reduce-stays n a fs h = ap (λ (e : T × List F). go e.0 e.1) (ended-none C n a fs h)
+
+-- an expression of a level ends before these tokens
+abbrev pub Ends : {A : Type 0} → (A → ℕ) → ℕ → List A → Type 0
+Ends tightness n [] = ⊥
+Ends tightness n (t ∷ ts) = tightness t < n
+
+pub Ends-more : {A : Type 0} (tightness : A → ℕ) (n m : ℕ) (ts : List A) → n ≤ m → Ends tightness n ts → Ends tightness m ts
+Ends-more tightness n m [] le ends = ends
+Ends-more tightness n m (t ∷ ts) le ends = omega arith
+
+-- a machine whose tokens, behind an operand, end the constructs that bind tighter
+module _ {A T U F S : Type 0} (M : Machine A U S) (C : Constructs F T) (have : T → List F → S) (tightness : A → ℕ) (follow : A → T → List F → S)
+    (goes : (t : A) (a : T) (fs : List F) → M.step t (have a fs) ≡ reduce C (follow t) (tightness t) a fs)
+  where
+    -- what stands behind an expression that a construct awaits ends the construct
+    swallow_one : (f : F) (a : T) (fs : List F) (t : A) → tightness t < C.rank f → M.step t (have a (f ∷ fs)) ≡ M.step t (have (C.finish f a) fs)
+    swallow_one f a fs t ends = goes t a (f ∷ fs) ∙ reduce-ends C (follow t) (tightness t) a f fs ends ∙ sym (goes t (C.finish f a) fs)
+
+    pub swallow : (f : F) (a : T) (fs : List F) (ts : List A) → Ends tightness (C.rank f) ts → run M ts (have a (f ∷ fs)) ≡ run M ts (have (C.finish f a) fs)
+    swallow f a fs [] ends = absurd ends
+    swallow f a fs (t ∷ ts) ends = ap (run M ts) (swallow_one f a fs t ends)
+
+    pub swallow_heights : (f : F) (a : T) (fs : List F) (ts : List A) → Ends tightness (C.rank f) ts → heights M ts (have a (f ∷ fs)) ≡ heights M ts (have (C.finish f a) fs)
+    swallow_heights f a fs [] ends = absurd ends
+    swallow_heights f a fs (t ∷ ts) ends = ap (λ s. M.height s ∷ heights M ts s) (swallow_one f a fs t ends)
+
+-- so many constructs more round the expression
+pub map-plus : (m n : ℕ) (xs : List ℕ) → map (λ (k : ℕ). (m + n) + k) xs ≡ map (λ (k : ℕ). m + k) (map (λ (k : ℕ). n + k) xs)
+map-plus m n [] = refl
+map-plus m n (x ∷ xs) = let rest = map-plus m n xs in let here : m + n + x ≡ m + (n + x) = omega arith in cc
+
+pub map-suc : (m : ℕ) (xs : List ℕ) → map (λ (k : ℕ). suc m + k) xs ≡ map (λ (k : ℕ). m + k) (map suc xs)
+map-suc m [] = refl
+map-suc m (x ∷ xs) = let rest = map-suc m xs in let here : suc m + x ≡ m + suc x = omega arith in cc
+
+pub map-zero : (xs : List ℕ) → map (λ (k : ℕ). 0 + k) xs ≡ xs
+map-zero [] = refl
+map-zero (x ∷ xs) = let rest = map-zero xs in let here : 0 + x ≡ x = omega arith in cc
