@@ -6,7 +6,8 @@ use Rattle.lw_read.specs.declared.fault.ReadFault.{ReadFault}
 use Rattle.lw_read.specs.declared.fault.ReadFault.TheVariants as fault
 use Rattle.lw_read.specs.Lexemes.{Lexeme, lexemes_of}
 use Rattle.lw_read.specs.Places.{FaultKind, Unexpected, TooLong, Nested, HasUnfinished, HasFirstFault, HasNoFirstFault, HasOneCount}
-use Rattle.lw_read.specs.Grammar.{IsFormula, formulas, ReadsAs, start_of, IsFaultOf}
+use Rattle.lw_read.specs.Grammar.{IsFormula, formulas, ReadsAs, IsFaultOf}
+use Rattle.lw_read.specs.Language.{start_of}
 use Rattle.lw_read.specs.Private.FormulaMachine.{Need, height}
 use Rattle.lw_read.specs.Text.{text_of}
 use Rattle.lw_formula.specs.Variables.{HasNames}
