@@ -27,6 +27,7 @@ pub record Table : Type 0 where
 abbrev pub item_count : Table → ℕ
 item_count t = 2 * length t.forms
 
+-- the sign of an item
 abbrev pub sign_of : ℕ → Sign
 sign_of i = if i % 2 == 0 then T else F
 
@@ -42,13 +43,15 @@ form_of forms i = slice_index_or forms i (record { 0 = 0 })
 abbrev pub item_of : List FormId → ℕ → SignedId
 item_of forms i = record { sign = sign_of i; form = form_of forms (i / 2) }
 
+-- item i of the table
 abbrev pub item_at : Table → ℕ → SignedId
 item_at t i = item_of t.forms i
 
--- formula i, and the signed formula of an item, where the pool has the formulas ts
+-- formula i, where the pool has the formulas ts
 abbrev pub form_at : List Formula → List FormId → ℕ → Formula
 form_at ts forms i = tree_at ts (form_of forms i)
 
+-- the signed formula of an item, where the pool has the formulas ts
 abbrev pub signed_of : List Formula → Table → ℕ → Signed
 signed_of ts t i = signed_at ts (item_at t i)
 

@@ -10,16 +10,20 @@ use Rattle.lw_pool.specs.declared.id.SignedId.{SignedId}
 use Rattle.lw_proof.specs.declared.rule.Rule.{Rule}
 use Rattle.lw_proof.specs.Tree.{Tree, Forest, node, none, more, forest, lines, lines_all}
 
+-- the number that stands for the sign
 abbrev pub sign_number : Sign → ℕ
 sign_number F = 0
 sign_number T = 1
 
+-- the sign for which the number stands
 abbrev pub numbered_sign : ℕ → Sign
 numbered_sign k = if k == 0 then F else T
 
+-- the code of a signed id: its sign and its number
 abbrev pub id_code : SignedId → Gv
 id_code s = gcons (gnum (sign_number s.sign)) (gnum s.form.0)
 
+-- the signed id that has the code
 abbrev pub id_back : Gv → SignedId
 id_back (gcons a b) = record { sign = numbered_sign (num a); form = record { 0 = num b } }
 id_back _ = record { sign = F; form = record { 0 = 0 } }
@@ -31,12 +35,14 @@ numbered_sign-sign_number F = refl
 pub id_back-id_code : (s : SignedId) → id_back (id_code s) ≡ s
 id_back-id_code s = λ i. record { sign = numbered_sign-sign_number s.sign i; form = s.form }
 
+-- signed ids are told apart by their codes
 abbrev pub coded_id : Coded SignedId
 coded_id = record {
   code = id_code;
   inj = λ s t p. sym (id_back-id_code s) ∙ ap id_back p ∙ id_back-id_code t;
 }
 
+-- the number that stands for the rule
 abbrev pub rule_number : Rule → ℕ
 rule_number Rule.Close = 0
 rule_number Rule.Absurd = 1
@@ -46,6 +52,7 @@ rule_number Rule.Refl = 4
 rule_number Rule.Step = 5
 rule_number Rule.Cut = 6
 
+-- the rule for which the number stands
 abbrev pub numbered_rule : ℕ → Rule
 numbered_rule k =
     if k == 0 then Rule.Close else
@@ -73,6 +80,7 @@ abbrev mutual
   forest_code none = gnil
   forest_code (more t ts) = gcons (tree_code t) (forest_code ts)
 
+-- the proof that has the code
 abbrev mutual
   pub tree_back : Gv → Tree SignedId
   tree_back (gcons (gcons r s) ts) = node (numbered_rule (num r)) (id_back s) (forest_back ts)
@@ -90,6 +98,7 @@ mutual
   forest_back-forest_code none = refl
   forest_back-forest_code (more t ts) = λ i. more (tree_back-tree_code t i) (forest_back-forest_code ts i)
 
+-- proofs are told apart by their codes
 abbrev pub coded_tree : Coded (Tree SignedId)
 coded_tree = record {
   code = tree_code;
