@@ -12,6 +12,7 @@ pub mod LinesSoFar
 pub mod OneCertificate
 pub mod LineFeeds
 pub mod WrittenBack
+mod LinesWithinLimits
 pub mod OneSheet
 pub mod WorldRows
 pub mod LineBytes

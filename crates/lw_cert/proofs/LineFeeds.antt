@@ -10,13 +10,14 @@ use Rattle.lw_formula.specs.Logic.{word_of}
 use Rattle.lw_proof.specs.declared.rule.Rule.{Rule}
 use Rattle.lw_read.specs.declared.lexeme.Prefix.{Prefix}
 use Rattle.lw_read.specs.declared.lexeme.Prefix.TheVariants.{Not, Nec, Poss}
-use Rattle.lw_read.specs.declared.lexeme.Connective.{Connective}
-use Rattle.lw_read.specs.declared.lexeme.Connective.TheVariants.{And, Or, Imp, Iff}
+use Rattle.lw_formula.specs.declared.joint.Joint.{Joint}
+use Rattle.lw_formula.specs.declared.joint.Joint.TheVariants.{And, Or, Imp, Iff}
 use Rattle.lw_read.specs.declared.lexer.Token.{Token}
 use Rattle.lw_read.specs.declared.lexer.TokenKind.{TokenKind}
 use Rattle.lw_read.specs.Tokens.{tokens_of}
 use Rattle.lw_read.specs.Lexemes.{Lexeme, Variable, is_variable, word_lexeme, symbol_lexeme, kind_lexeme, lexeme_of}
-use Rattle.lw_read.specs.Grammar.{apply, join, Reads, variable, truth, falsity, prefixed, bracketed, joined, ReadsAs}
+use Rattle.lw_read.specs.Grammar.{apply, Reads, variable, truth, falsity, prefixed, bracketed, joined, ReadsAs}
+use Rattle.lw_formula.specs.Joint.{join}
 use Rattle.lw_read.specs.Text.{tightness, operand_text, modal_operand_text, sign_text, text_of}
 use Rattle.lw_cert.specs.Lines.{Line, logic_is, formula_is, step_is, worlds_are, refuted_is, world_is, nothing, Piece, Whole, say, rule_word, sign_word, numbers, words, Rise, IsAllowed}
 use Rattle.lw_cert.proofs.MarkFreeBytes.{lacks, lacks-append, lacks-if, lacks-decimal, lacks-word, lacks-name, and-first, and-second}
@@ -66,12 +67,12 @@ feedless-apply Not a h = feedless-operand 5 a h
 feedless-apply Nec a h = feedless-modal a h
 feedless-apply Poss a h = feedless-modal a h
 
-feedless-between : (n m : ℕ) (sign : Connective) (a b : Formula) → IsFeedless (sign_text sign) → IsFeedless (text_of a) → IsFeedless (text_of b) → IsFeedless (operand_text n a (text_of a) ++ sign_text sign ++ operand_text m b (text_of b))
+feedless-between : (n m : ℕ) (sign : Joint) (a b : Formula) → IsFeedless (sign_text sign) → IsFeedless (text_of a) → IsFeedless (text_of b) → IsFeedless (operand_text n a (text_of a) ++ sign_text sign ++ operand_text m b (text_of b))
 feedless-between n m sign a b s h k =
     let left = operand_text n a (text_of a) in
     feedless-append (left ++ sign_text sign) (operand_text m b (text_of b)) (feedless-append left (sign_text sign) (feedless-operand n a h) s) (feedless-operand m b k)
 
-feedless-join : (sign : Connective) (a b : Formula) → IsFeedless (text_of a) → IsFeedless (text_of b) → IsFeedless (text_of (join sign a b))
+feedless-join : (sign : Joint) (a b : Formula) → IsFeedless (text_of a) → IsFeedless (text_of b) → IsFeedless (text_of (join sign a b))
 feedless-join And a b h k = feedless-between 5 4 And a b refl h k
 feedless-join Or a b h k = feedless-between 4 3 Or a b refl h k
 feedless-join Imp a b h k = feedless-between 3 2 Imp a b refl h k

@@ -7,9 +7,9 @@ use Rattle.lw_formula.specs.Signed.{Signed}
 use Rattle.lw_proof.specs.Tree.{Tree, Forest, node, none, more}
 use Rattle.lw_cert.specs.declared.certificate.Certificate.{Certificate}
 use Rattle.lw_cert.specs.Lines.{Line, Row, Piece, Whole, Cut, Stop, say, longer, pieces, AreAllowed}
-use Rattle.lw_cert.specs.Sheet.{Sheet, Content, Steps, Table, steps, all_steps, rows_from, content_lines, lines}
-use Rattle.lw_cert.specs.Written.{piece_text, text_of_lines}
-use Rattle.lw_cert.specs.Laws.{ReadsBack}
+use Rattle.lw_cert.specs.Sheet.{Sheet, Content, Steps, Table, IsRegular, steps, all_steps, rows_from, content_lines, lines}
+use Rattle.lw_cert.specs.Written.{IsWritten, piece_text, text_of_lines}
+use Rattle.lw_cert.specs.Certificates.{IsTextOf}
 use Rattle.lw_cert.proofs.MachineRuns.{closing}
 use Rattle.lw_cert.proofs.MarkFreeBytes.{lacks, and-first, and-second}
 use Rattle.lw_cert.proofs.LineFeeds.{IsLine, IsThere, is-line}
@@ -58,8 +58,8 @@ content-told (Table w rows) is = told tt (told tt (told tt (rows-told (length ro
 sheet-told : (c : Sheet) → AreTold (lines c)
 sheet-told c = told tt (told tt (told tt (content-told c.content (told tt (record { same = λ allowed. refl })))))
 
-pub reads-back : (ts : List Formula) (c : Certificate) (text : List ℕ) → ReadsBack ts c text
-reads-back ts c text is regular allowed = record {
+pub allowed-reads : (ts : List Formula) (c : Certificate) (text : List ℕ) (is : IsWritten ts c text) → IsRegular is.sheet.content → AreAllowed (lines is.sheet) → IsTextOf ts c text
+allowed-reads ts c text is regular allowed = record {
   sheet = is.sheet;
   says = is.says;
   reads = record { regular = regular; allowed = allowed; said = ap pieces is.said ∙ (sheet-told is.sheet).same allowed };

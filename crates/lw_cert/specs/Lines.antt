@@ -13,6 +13,7 @@ use Rattle.std.specs.Cmp.Lexicographic.{slice_cmp}
 use Rattle.std.specs.declared.cmp.Ordering.TheVariants.{Less}
 use Rattle.lw_read.specs.Text.{text_of}
 use Rattle.lw_read.specs.Grammar.{ReadsAs}
+use Rattle.lw_read.specs.Laws.{IsFaultless}
 use Rattle.lw_proof.specs.declared.rule.Rule.{Rule}
 
 -- a world of a model as its line has it: the worlds that it sees, and the variables that are true there
@@ -136,3 +137,11 @@ IsAllowed _ = ⊤
 abbrev pub AreAllowed : List Line → Type 0
 AreAllowed [] = ⊤
 AreAllowed (l ∷ ls) = IsAllowed l × AreAllowed ls
+
+-- the line is within the limits of a text that is read: the text of its formula has no fault, its step isn't too deep,
+-- and its number of worlds can be counted
+abbrev pub IsWithinLimits : Line → Type 0
+IsWithinLimits (formula_is a) = IsFaultless (text_of a)
+IsWithinLimits (step_is d r s) = (d ≤ depth_limit) × IsFaultless (text_of s.1)
+IsWithinLimits (worlds_are n) = n < 2 ^ 64
+IsWithinLimits _ = ⊤
