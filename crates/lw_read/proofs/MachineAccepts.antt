@@ -1,6 +1,5 @@
 -- The machine accepts each text of the grammar, and counts what the grammar counts.
-use Rattle.std.proofs.Common.{◌≡◌, ℕ, suc, ◌+◌, ◌<◌, ◌≤◌, List, [], ◌∷◌, ◌++◌, length, map, refl, sym, ◌∙◌, ap, arith, add-zero}
-use Rattle.std.proofs.lemmas.List.{map-append, append_assoc}
+use Rattle.std.proofs.Common.{◌≡◌, ℕ, suc, ◌+◌, ◌<◌, ◌≤◌, List, [], ◌∷◌, ◌++◌, length, refl, sym, ◌∙◌, ap, arith, add-zero}
 use Rattle.lw_formula.specs.Formula.{Formula}
 use Rattle.lw_formula.specs.declared.joint.Joint.{Joint}
 use Rattle.lw_formula.specs.declared.joint.Joint.TheVariants.{And, Or, Imp, Iff}
@@ -10,7 +9,7 @@ use Rattle.lw_read.specs.Machine as machine
 use Rattle.lw_read.specs.Constructs as stack
 use Rattle.lw_read.specs.Private.FormulaMachine.{Frame, Awaiting, Left, Bracket, State, Need, Have, Over, frame_rank, finish, formula_constructs, tightness, follow, formula_machine, run, height}
 use Rattle.lw_read.proofs.StackedConstructs as stacked
-use Rattle.lw_read.proofs.StackedConstructs.{Fits-more, Ends-more, reduce-stays, map-suc, map-zero}
+use Rattle.lw_read.proofs.StackedConstructs.{Fits-more, Ends-more, reduce-stays, above, above-zero, above-prefix, above-infix, above-brackets}
 
 pub rank-low : (o : Joint) → 1 ≤ rank o
 rank-low And = omega arith
@@ -77,7 +76,7 @@ pub same_tree : (ts : List Lexeme) (a b : Formula) → IsFormula ts a → IsForm
 same_tree ts a b r s = let e = accepted r in let f = accepted s in cc
 
 -- the machine's stack is as high as the grammar counts
-pub counts-height : {n : ℕ} {ts rest : List Lexeme} {a : Formula} (r : Reads n ts a rest) (fs : List Frame) → Fits n fs → Ends n rest → heights ts (Need fs) ≡ map (λ (k : ℕ). length fs + k) (unfinished r) ++ heights rest (Have a fs)
+pub counts-height : {n : ℕ} {ts rest : List Lexeme} {a : Formula} (r : Reads n ts a rest) (fs : List Frame) → Fits n fs → Ends n rest → heights ts (Need fs) ≡ above (length fs) (unfinished r) ++ heights rest (Have a fs)
 counts-height variable fs fits ends = rw add-zero refl
 counts-height truth fs fits ends = rw add-zero refl
 counts-height falsity fs fits ends = rw add-zero refl
@@ -86,16 +85,11 @@ counts-height {n} {rest = rest} (prefixed {a = a} sign is r) fs fits ends =
     let inner = counts-height r (Awaiting sign ∷ fs) (omega arith) five in
     let outer = swallow_heights (Awaiting sign) a fs rest five in
     let same = ap (λ c. heights rest (Have c fs)) (sym is) in
-    let shift = map-suc (length fs) (unfinished r) in
-    let one : length fs + 1 ≡ suc (length fs) = omega arith in
+    let shift = above-prefix (length fs) (suc (length fs)) (unfinished r) (heights rest (Have (finish (Awaiting sign) a) fs)) (omega arith) in
     cc
 counts-height {n} {rest = rest} (bracketed {a = a} r) fs fits ends =
     let inner = counts-height r (Bracket ∷ fs) (omega arith) (omega arith) in
-    let shift = map-suc (length fs) (unfinished r) in
-    let one : length fs + 1 ≡ suc (length fs) = omega arith in
-    let none : length fs + 0 ≡ length fs = omega arith in
-    let parts = map-append (λ (k : ℕ). length fs + k) (map suc (unfinished r)) (0 ∷ []) in
-    let grouped = append_assoc (map (λ (k : ℕ). length fs + k) (map suc (unfinished r))) (length fs ∷ []) (heights rest (Have a fs)) in
+    let shift = above-brackets (length fs) (suc (length fs)) (unfinished r) (heights rest (Have a fs)) (omega arith) in
     cc
 counts-height {n} {rest = rest} (joined {mid = mid} {a = a} {b = b} sign le is r s) fs fits ends =
     let here = Ends-more tightness n (rank sign) rest le ends in
@@ -104,11 +98,8 @@ counts-height {n} {rest = rest} (joined {mid = mid} {a = a} {b = b} sign le is r
     let right = counts-height s (Left sign a ∷ fs) (omega arith) here in
     let outer = swallow_heights (Left sign a) b fs rest here in
     let same = ap (λ c. heights rest (Have c fs)) (sym is) in
-    let shift = map-suc (length fs) (unfinished s) in
-    let one : length fs + 1 ≡ suc (length fs) = omega arith in
-    let parts = map-append (λ (k : ℕ). length fs + k) (unfinished r) (1 ∷ map suc (unfinished s)) in
-    let grouped = append_assoc (map (λ (k : ℕ). length fs + k) (unfinished r)) (map (λ (k : ℕ). length fs + k) (1 ∷ map suc (unfinished s))) (heights rest (Have b (Left sign a ∷ fs))) in
+    let shift = above-infix (length fs) (suc (length fs)) (unfinished r) (unfinished s) (heights rest (Have (finish (Left sign a) b) fs)) (omega arith) in
     cc
 
 pub counts-are : (ts : List Lexeme) (text : formulas.IsText ts) → formulas.counts ts text ≡ heights ts (Need [])
-counts-are ts text = sym (counts-height text.1 [] (omega arith) (omega arith) ∙ ap (λ xs. xs ++ (0 ∷ [])) (map-zero (unfinished text.1)))
+counts-are ts text = sym (counts-height text.1 [] (omega arith) (omega arith) ∙ ap (λ xs. xs ++ (0 ∷ [])) (above-zero (unfinished text.1)))

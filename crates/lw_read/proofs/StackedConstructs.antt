@@ -1,6 +1,7 @@
 -- What tokens do to the constructs on a machine's stack, at any frames, trees and tokens.
-use Rattle.std.proofs.Common.{◌≡◌, ℕ, suc, ◌+◌, ◌<◌, ◌≤◌, Bool, true, false, List, [], ◌∷◌, map, cond, nat_lt, refl, sym, ◌∙◌, ap, arith}
+use Rattle.std.proofs.Common.{◌≡◌, ℕ, suc, ◌+◌, ◌<◌, ◌≤◌, Bool, true, false, List, [], ◌∷◌, ◌++◌, map, cond, nat_lt, refl, sym, ◌∙◌, ap, arith}
 use Rattle.std.proofs.lemmas.Bool.Decides.{nat_tests}
+use Rattle.std.proofs.lemmas.List.{map-append, append_assoc}
 use Rattle.lw_read.specs.Machine.{Machine, run, heights}
 use Rattle.lw_read.specs.Constructs.{Constructs, ended, Fits, reduce}
 
@@ -65,15 +66,38 @@ module _ {A T U F S : Type 0} (M : Machine A U S) (C : Constructs F T) (have : T
     swallow_heights f a fs [] ends = absurd ends
     swallow_heights f a fs (t ∷ ts) ends = ap (λ s. M.height s ∷ heights M ts s) (swallow_one f a fs t ends)
 
--- so many constructs more round the expression
-pub map-plus : (m n : ℕ) (xs : List ℕ) → map (λ (k : ℕ). (m + n) + k) xs ≡ map (λ (k : ℕ). m + k) (map (λ (k : ℕ). n + k) xs)
-map-plus m n [] = refl
-map-plus m n (x ∷ xs) = let rest = map-plus m n xs in let here : m + n + x ≡ m + (n + x) = omega arith in cc
+-- the counts of an expression with so many constructs round it
+abbrev pub above : ℕ → List ℕ → List ℕ
+above h xs = map (λ (k : ℕ). h + k) xs
 
-pub map-suc : (m : ℕ) (xs : List ℕ) → map (λ (k : ℕ). suc m + k) xs ≡ map (λ (k : ℕ). m + k) (map suc xs)
-map-suc m [] = refl
-map-suc m (x ∷ xs) = let rest = map-suc m xs in let here : suc m + x ≡ m + suc x = omega arith in cc
+pub above-zero : (xs : List ℕ) → above 0 xs ≡ xs
+above-zero [] = refl
+above-zero (x ∷ xs) = let rest = above-zero xs in let here : 0 + x ≡ x = omega arith in cc
 
-pub map-zero : (xs : List ℕ) → map (λ (k : ℕ). 0 + k) xs ≡ xs
-map-zero [] = refl
-map-zero (x ∷ xs) = let rest = map-zero xs in let here : 0 + x ≡ x = omega arith in cc
+pub above-above : (h m w : ℕ) (xs : List ℕ) → w ≡ h + m → above w xs ≡ above h (above m xs)
+above-above h m w [] is = refl
+above-above h m w (x ∷ xs) is = let rest = above-above h m w xs is in let here : w + x ≡ h + (m + x) = omega arith in cc
+
+pub above-suc : (h w : ℕ) (xs : List ℕ) → w ≡ h + 1 → above w xs ≡ above h (map suc xs)
+above-suc h w [] is = refl
+above-suc h w (x ∷ xs) is = let rest = above-suc h w xs is in let here : w + x ≡ h + suc x = omega arith in cc
+
+-- two parts, one behind the other
+pub above-append : (h : ℕ) (xs ys rest : List ℕ) → above h xs ++ (above h ys ++ rest) ≡ above h (xs ++ ys) ++ rest
+above-append h xs ys rest = sym (ap (λ zs. zs ++ rest) (map-append (λ (k : ℕ). h + k) xs ys) ∙ append_assoc (above h xs) (above h ys) rest)
+
+-- a sign, and behind it its operand
+pub above-prefix : (h w : ℕ) (xs rest : List ℕ) → w ≡ h + 1 → w ∷ (above w xs ++ rest) ≡ above h (1 ∷ map suc xs) ++ rest
+above-prefix h w xs rest is = let shift = above-suc h w xs is in cc
+
+-- an operand, a sign, and behind it its operand
+pub above-infix : (h w : ℕ) (xs ys rest : List ℕ) → w ≡ h + 1 → above h xs ++ (w ∷ (above w ys ++ rest)) ≡ above h (xs ++ (1 ∷ map suc ys)) ++ rest
+above-infix h w xs ys rest is = ap (λ zs. above h xs ++ zs) (above-prefix h w ys rest is) ∙ above-append h xs (1 ∷ map suc ys) rest
+
+-- an opening bracket, what stands within it, and the closing one
+pub above-brackets : (h w : ℕ) (xs rest : List ℕ) → w ≡ h + 1 → w ∷ (above w xs ++ (h ∷ rest)) ≡ above h (1 ∷ (map suc xs ++ (0 ∷ []))) ++ rest
+above-brackets h w xs rest is =
+    let shift = above-suc h w xs is in
+    let none : h + 0 ≡ h = omega arith in
+    let parts = above-append h (map suc xs) (0 ∷ []) rest in
+    cc
