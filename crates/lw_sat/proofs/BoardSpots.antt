@@ -1,11 +1,12 @@
 -- Where a board stands after its rows have changed.
-use Rattle.std.proofs.Common.{◌≡◌, ℕ, ◌+◌, ◌*◌, ◌≤◌, Bool, true, false, ◌||◌, List, [], ◌∷◌, ◌++◌, length, refl, sym, ap, ◌∙◌, arith}
+use Rattle.std.proofs.Common.{◌≡◌, ℕ, ◌+◌, ◌≤◌, Bool, true, false, ◌||◌, List, [], ◌∷◌, ◌++◌, length, refl, sym, ap, ◌∙◌, arith}
 use Rattle.std.proofs.lemmas.List.{length_push, length-map}
 use Rattle.lw_proof.specs.System.{Set}
 use Rattle.lw_rows.specs.RowStack.{Region, IsRegion, empty_row}
 use Rattle.lw_sat.specs.declared.board.Board.{Board}
-use Rattle.lw_sat.specs.Sets.{either, has, nothing, without, top, sets, lower, HasTop, Replaces}
-use Rattle.lw_sat.specs.SeedPath.{Spot, spot_of, IsBoard, Becomes}
+use Rattle.lw_sat.specs.Sets.{either, has, nothing, without, top, sets, lower}
+use Rattle.lw_sat.specs.Private.LastRow.{HasTop, Replaces}
+use Rattle.lw_sat.specs.SeedPath.{Spot, spot_of, Becomes}
 use Rattle.lw_sat.proofs.RowsAsSets.{has-empty, sets_split, top-push, lower-push, same_ends}
 use Rattle.lw_sat.proofs.LastRowChanges.{replaces_on, replaces_as}
 
@@ -13,18 +14,6 @@ use Rattle.lw_sat.proofs.LastRowChanges.{replaces_on, replaces_as}
 pub same_spot : (X Y : Set ℕ) (Bs Cs Ks Ls : List (Set ℕ)) → X ≡ Y → Bs ≡ Cs → Ks ≡ Ls →
     (let a : Spot = record { set = X; below = Bs; kept = Ks } in a) ≡ record { set = Y; below = Cs; kept = Ls }
 same_spot X Y Bs Cs Ks Ls e f g = λ i. record { set = e i; below = f i; kept = g i }
-
--- the label alone has changed
-pub becomes_label : (b : Board) (l : Region) (X : Set ℕ) → IsBoard b → Replaces b.labels l X → Becomes b (record b { labels = l }) (record (spot_of b) { set = X })
-becomes_label b l X h r = record {
-  board = record { label = r.there; used = h.used; long = h.long ∙ sym (ap (λ k. 64 * k) r.width); equal = h.equal };
-  spot = same_spot (top l) X (lower l) (lower b.labels) (sets b.used) (sets b.used) r.top r.lower refl;
-  bits = refl;
-}
-
--- one change after another
-pub becomes_then : (b c d : Board) (a : Spot) → Becomes b c (spot_of c) → Becomes c d a → Becomes b d a
-becomes_then b c d a h k = record { board = k.board; spot = k.spot; bits = k.bits ∙ h.bits }
 
 -- the last of the kept rows
 pub kept_top : (u : Region) (Xs : List (Set ℕ)) (U : Set ℕ) → IsRegion u → sets u ≡ Xs ++ U ∷ [] → HasTop u × (lower u ≡ Xs) × (top u ≡ U)
@@ -38,13 +27,8 @@ pub some_kept : (u : Region) → IsRegion u → 1 ≤ length (sets u) → HasTop
 some_kept u region some = record { some = let n = length-map u.rows has in omega arith; region = region }
 
 -- the label has changed, and what is kept
-pub becomes_kept : (b : Board) (l u : Region) (X : Set ℕ) (Ks : List (Set ℕ)) → IsBoard b → Replaces b.labels l X → IsRegion u → u.width ≡ b.used.width → sets u ≡ Ks →
-    Becomes b (record b { labels = l; used = u }) (record (spot_of b) { set = X; kept = Ks })
-becomes_kept b l u X Ks h r region w e = record {
-  board = record { label = r.there; used = region; long = h.long ∙ sym (ap (λ k. 64 * k) r.width); equal = h.equal ∙ sym (ap (λ k. 64 * k) w) };
-  spot = same_spot (top l) X (lower l) (lower b.labels) (sets u) Ks r.top r.lower e;
-  bits = refl;
-}
+pub becomes_kept : (b c : Board) (X : Set ℕ) (Ks : List (Set ℕ)) → Replaces b.labels c.labels X → sets c.used ≡ Ks → c.bits ≡ b.bits → Becomes b c (record (spot_of b) { set = X; kept = Ks })
+becomes_kept b c X Ks r e bits = record { spot = same_spot (top c.labels) X (lower c.labels) (lower b.labels) (sets c.used) Ks r.top r.lower e; bits = bits }
 
 pub unchanged : (r : Region) → HasTop r → Replaces r r (top r)
 unchanged r h = record { there = h; top = refl; lower = refl; width = refl }
@@ -75,7 +59,6 @@ branches_poured l m n u v U cs ds h k p e =
 pub becomes_more : (b c d : Board) (X : Set ℕ) (Ks : List (Set ℕ)) (f : Set ℕ → Set ℕ) → Becomes b c (record (spot_of b) { set = X; kept = Ks }) →
     Becomes c d (record (spot_of c) { set = f (top c.labels) }) → Becomes b d (record (spot_of b) { set = f X; kept = Ks })
 becomes_more b c d X Ks f h k = record {
-  board = k.board;
   spot = let g : Spot → Spot = λ a. record a { set = f a.set } in k.spot ∙ ap g h.spot;
   bits = k.bits ∙ h.bits;
 }
@@ -83,7 +66,6 @@ becomes_more b c d X Ks f h k = record {
 -- what the label has become is what it has
 pub becomes_itself : (b c : Board) (X : Set ℕ) (Ks : List (Set ℕ)) → Becomes b c (record (spot_of b) { set = X; kept = Ks }) → Becomes b c (record (spot_of b) { set = top c.labels; kept = Ks })
 becomes_itself b c X Ks h = record {
-  board = h.board;
   spot = same_spot (top c.labels) (top c.labels) (lower c.labels) (lower b.labels) (sets c.used) Ks refl (let g : Spot → List (Set ℕ) = λ a. a.below in ap g h.spot) (let g : Spot → List (Set ℕ) = λ a. a.kept in ap g h.spot);
   bits = h.bits;
 }
@@ -92,7 +74,6 @@ becomes_itself b c X Ks h = record {
 pub kept_back : (b c d : Board) (Bs : List (Set ℕ)) (X : Set ℕ) → Becomes b c (record (spot_of b) { kept = sets b.used ++ top b.labels ∷ [] }) →
     Becomes c d (record (spot_of c) { set = X; below = Bs }) → Becomes b d (record { set = X; below = Bs; kept = sets b.used ++ top b.labels ∷ [] })
 kept_back b c d Bs X h k = record {
-  board = k.board;
   spot = let g : Spot → Spot = λ a. record a { set = X; below = Bs } in k.spot ∙ ap g h.spot;
   bits = k.bits ∙ h.bits;
 }
@@ -110,7 +91,6 @@ set_of b c a h = let g : Spot → Set ℕ = λ a. a.set in ap g h.spot
 pub back_restored : (b c d : Board) (Bs Ks : List (Set ℕ)) (X U : Set ℕ) → Becomes b c (record { set = X; below = Bs; kept = Ks ++ U ∷ [] }) →
     Becomes c d (record (spot_of c) { set = U; kept = Ks }) → Becomes b d (record { set = U; below = Bs; kept = Ks })
 back_restored b c d Bs Ks X U h k = record {
-  board = k.board;
   spot = let g : Spot → Spot = λ a. record a { set = U; kept = Ks } in k.spot ∙ ap g h.spot;
   bits = k.bits ∙ h.bits;
 }
@@ -118,7 +98,6 @@ back_restored b c d Bs Ks X U h k = record {
 -- other items come into the label
 pub label_more : (b c d : Board) (a : Spot) (f : Set ℕ → Set ℕ) → Becomes b c a → Becomes c d (record (spot_of c) { set = f (top c.labels) }) → Becomes b d (record a { set = f a.set })
 label_more b c d a f h k = record {
-  board = k.board;
   spot = let g : Spot → Spot = λ a. record a { set = f a.set } in k.spot ∙ ap g h.spot;
   bits = k.bits ∙ h.bits;
 }

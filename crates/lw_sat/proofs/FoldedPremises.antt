@@ -12,8 +12,9 @@ use Rattle.lw_sat.specs.declared.frame.Folded.TheVariants.{Closed, Turned}
 use Rattle.lw_sat.specs.declared.frame.Frame.TheVariants.{First, Second}
 use Rattle.lw_sat.specs.Closing.{Rests}
 use Rattle.lw_sat.specs.Moves.{listed}
-use Rattle.lw_sat.specs.SeedPath.{Spot, spot_of, Becomes, FoldsTo, IsClosedAt, IsTurned, IsWide, Link, TurnsFirst, room_at}
-use Rattle.lw_sat.specs.Sets.{adding, lower, sets, top, weight, weights, AreBelow}
+use Rattle.lw_sat.specs.SeedPath.{Spot, spot_of, Becomes, FoldsTo, IsClosedAt, IsTurned, IsWide, Link, room_at}
+use Rattle.lw_sat.specs.Private.ClosedPremises.{FoldsFirst, TurnsFirst}
+use Rattle.lw_sat.specs.Sets.{adding, sets, top, weight, weights, AreBelow}
 use Rattle.lw_sat.proofs.BoardSpots.{kept_of, lower_of, set_of}
 use Rattle.lw_sat.proofs.SetWeights.{weight_new, weight_some, weights_on}
 use Rattle.lw_sat.proofs.UsedItems.{adding_old, new_below, none_used, rests_as, rests_drop}
@@ -68,6 +69,6 @@ module _ (t : Table) (test : Set ℕ → Bool) (a b : Spot) (rule : Rule) (item 
     folds_turned : (frame : _) → TurnsFirst old new rule item p q proof a.below a.set (Turned frame) → FoldsTo t test a b new (Turned frame)
     folds_turned frame (same, becomes) = subst (λ f. IsTurned t test a b f new) (sym same) (turned becomes)
 
-    pub first_folds : (folded : Folded) → ((Bs : List (Set ℕ)) (X : Set ℕ) → lower old.labels ≡ Bs ++ X ∷ [] → TurnsFirst old new rule item p q proof Bs X folded) → FoldsTo t test a b new folded
+    pub first_folds : (folded : Folded) → FoldsFirst old new rule item p q proof folded → FoldsTo t test a b new folded
     first_folds (Closed found) f = folds_closed found (f a.below a.set (h.below ∙ first_below))
     first_folds (Turned frame) f = folds_turned frame (f a.below a.set (h.below ∙ first_below))

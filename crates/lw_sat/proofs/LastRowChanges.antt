@@ -5,7 +5,8 @@ use Rattle.std.proofs.lemmas.List.{get_or_past}
 use Rattle.std.proofs.lemmas.List.Elements.{All-get_or}
 use Rattle.lw_proof.specs.System.{Set}
 use Rattle.lw_rows.specs.RowStack.{Region}
-use Rattle.lw_sat.specs.Sets.{adding, either, without, top, HasTop, Replaces}
+use Rattle.lw_sat.specs.Sets.{adding, either, without, top}
+use Rattle.lw_sat.specs.Private.LastRow.{HasTop, Replaces}
 use Rattle.lw_sat.specs.Moves.{listed}
 
 -- a second change takes the place of the first

@@ -31,7 +31,6 @@ module _ (t : Table) (X : Set ℕ) (test : Set ℕ → Bool) (frames : List Fram
       p ≡ node rule (item_at t item) none → Becomes b c (record (spot_of b) { set = adding (listed used) nothing }) → IsClosing t X test frames c p
   leaf_closing rule item used c p leaf is becomes =
       record {
-        board = becomes.board;
         wide = (let wide = h.wide in let bits = becomes.bits in omega arith);
         seed = h.seed;
         spot = spot_of b;
@@ -56,7 +55,6 @@ module _ (t : Table) (X : Set ℕ) (test : Set ℕ → Bool) (frames : List Fram
   pub grown : (rule : Rule) (item : ℕ) (s : ℕ × Option ℕ) (f : Frame) (c : Board) → Moves t (top b.labels) rule item (listed s ∷ []) → test (adding (listed s) (top b.labels)) ≡ true →
       f ≡ Alone rule item s → Becomes b c (record (spot_of b) { set = adding (listed s) (top b.labels) }) → IsAt t X test (frames ++ f ∷ []) c
   grown rule item s f c m passes is becomes = record {
-    board = becomes.board;
     wide = (let wide = h.wide in let bits = becomes.bits in omega arith);
     seed = h.seed;
     leads = subst (λ g. Chain t test (root X) (frames ++ g ∷ []) (spot_of c)) (sym is) (chain_on t test frames (Alone rule item s) (root X) (spot_of b) (spot_of c) h.leads (m, becomes.spot));
@@ -67,7 +65,6 @@ module _ (t : Table) (X : Set ℕ) (test : Set ℕ → Bool) (frames : List Fram
   pub branched : (rule : Rule) (item : ℕ) (p q : ℕ × Option ℕ) (f : Frame) (c : Board) → Moves t (top b.labels) rule item (listed p ∷ listed q ∷ []) → test (adding (listed p) (top b.labels)) ≡ true → test (adding (listed q) (top b.labels)) ≡ true →
       f ≡ First rule item p q → Becomes b c (record (spot_of b) { set = adding (listed p) (top b.labels); below = lower b.labels ++ top b.labels ∷ [] }) → IsAt t X test (frames ++ f ∷ []) c
   branched rule item p q f c m passes waits is becomes = record {
-    board = becomes.board;
     wide = (let wide = h.wide in let bits = becomes.bits in omega arith);
     seed = h.seed;
     leads = subst (λ g. Chain t test (root X) (frames ++ g ∷ []) (spot_of c)) (sym is) (chain_on t test frames (First rule item p q) (root X) (spot_of b) (spot_of c) h.leads (m, waits, becomes.spot));

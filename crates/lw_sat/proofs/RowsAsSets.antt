@@ -4,7 +4,8 @@ use Rattle.std.proofs.lemmas.Bool.{cases_lt}
 use Rattle.std.proofs.lemmas.List.{length-map, length_push, get_or_push, get_or_past, get_or-replicate, length-replicate, take_more, take_all, take-append-le, map-append}
 use Rattle.lw_proof.specs.System.{Set}
 use Rattle.lw_rows.specs.RowStack.{Region, IsRegion, empty_row}
-use Rattle.lw_sat.specs.Sets.{has, nothing, top, sets, lower, HasTop}
+use Rattle.lw_sat.specs.Sets.{has, nothing, top, sets, lower}
+use Rattle.lw_sat.specs.Private.LastRow.{HasTop}
 
 -- the bits of an empty row
 pub has-empty : (width : ℕ) → has (empty_row width) ≡ nothing

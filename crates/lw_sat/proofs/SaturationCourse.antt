@@ -17,9 +17,10 @@ use Rattle.lw_sat.specs.declared.frame.Frame.{Frame}
 use Rattle.lw_sat.specs.declared.saturation.State.{State}
 use Rattle.lw_sat.specs.declared.saturation.State.TheVariants.{Working, Waiting, Closed, Answered, Failed}
 use Rattle.lw_sat.specs.Closing.{Closes}
-use Rattle.lw_sat.specs.Course.{is_waiting, state_from, state_room, state_steps, StateFits}
+use Rattle.lw_sat.specs.Course.{is_waiting, state_room, state_steps, StateFits}
+use Rattle.lw_sat.specs.Private.FoldedStates.{state_from}
 use Rattle.lw_sat.specs.Moves.{Moves, Survives}
-use Rattle.lw_sat.specs.SeedPath.{Spot, root, room_below, spot_of, most_steps, Becomes, IsBoard, IsWide}
+use Rattle.lw_sat.specs.SeedPath.{Spot, root, room_below, spot_of, most_steps, Becomes, IsWide}
 use Rattle.lw_sat.specs.Saturated.{every, fold_steps, room, FoldsAll, IsAt, IsClosing}
 use Rattle.lw_sat.specs.Sets.{adding, among, top}
 use Rattle.lw_sat.proofs.SetWeights.{weight_some}
@@ -45,7 +46,6 @@ module _ (t : Table) (X : Set ℕ) (test : Set ℕ → Bool) (fs : List Frame) (
   -- the label that waits is closed by a proof
   pub closing_label : (p : Tree SignedId) → IsAt t X test fs b → Closes t (top b.labels) p → IsClosing t X test fs b p
   closing_label p h c = record {
-    board = h.board;
     wide = h.wide;
     seed = h.seed;
     spot = spot_of b;
@@ -128,9 +128,9 @@ seed_added xs k b c l e h =
     h.spot ∙ ap g e ∙ ap root (seed_more (take k xs) (get_or xs k 0) ∙ ap among (sym (take_more xs k 0 l)))
 
 -- the whole seed is in
-pub seed_at : (t : Table) (xs : List ℕ) (test : Set ℕ → Bool) (k : ℕ) (b : Board) → IsBoard b → IsWide t b → spot_of b ≡ root (among (take k xs)) → length xs ≤ k →
+pub seed_at : (t : Table) (xs : List ℕ) (test : Set ℕ → Bool) (k : ℕ) (b : Board) → IsWide t b → spot_of b ≡ root (among (take k xs)) → length xs ≤ k →
     All (λ i. i < item_count t) xs → test (among xs) ≡ true → IsAt t (among xs) test [] b
-seed_at t xs test k b board wide e all own passes =
+seed_at t xs test k b wide e all own passes =
     let spot : spot_of b ≡ root (among xs) = e ∙ ap (λ ys. root (among ys)) (take_all k xs all) in
     let g : Spot → Set ℕ = λ a. a.set in
-    record { board = board; wide = wide; seed = among_all (item_count t) xs own; leads = sym spot; passes = subst (λ X. test X ≡ true) (sym (ap g spot)) passes }
+    record { wide = wide; seed = among_all (item_count t) xs own; leads = sym spot; passes = subst (λ X. test X ≡ true) (sym (ap g spot)) passes }

@@ -9,7 +9,7 @@ use Rattle.lw_sat.specs.declared.frame.Frame.{Frame}
 use Rattle.lw_sat.specs.declared.frame.Folded.TheVariants.{Closed, Turned}
 use Rattle.lw_sat.specs.Sets.{top, weights, lower}
 use Rattle.lw_sat.specs.Closing.{Closes}
-use Rattle.lw_sat.specs.SeedPath.{Spot, root, spot_of, Chain, ClosesAbove, FoldsTo, IsBoard, IsClosedAt, IsWide, Link, room_below}
+use Rattle.lw_sat.specs.SeedPath.{Spot, root, spot_of, Chain, ClosesAbove, FoldsTo, IsClosedAt, IsWide, Link, room_below}
 use Rattle.lw_sat.specs.Saturated.{IsAt, IsClosing, room}
 use Rattle.lw_sat.proofs.PathEnds.{chain_off, chain_on}
 use Rattle.lw_sat.proofs.UsedItems.{rests_closes}
@@ -23,7 +23,7 @@ module _ (t : Table) (X : Set ℕ) (test : Set ℕ → Bool) where
   pub closes_above : (fs : List Frame) (f : Frame) (b : Board) (p : Tree SignedId) → IsClosing t X test (fs ++ f ∷ []) b p → ClosesAbove t f b p
   closes_above fs f b p h = let l = last_link fs f b p h in (test, l.0, h.spot, l.2, h.closed)
 
-  module _ (fs : List Frame) (f : Frame) (b c : Board) (p : Tree SignedId) (h : IsClosing t X test (fs ++ f ∷ []) b p) (board : IsBoard c) (bits : c.bits ≡ b.bits) where
+  module _ (fs : List Frame) (f : Frame) (b c : Board) (p : Tree SignedId) (h : IsClosing t X test (fs ++ f ∷ []) b p) (bits : c.bits ≡ b.bits) where
     still_wide : IsWide t c
     still_wide = let w = h.wide in omega arith
 
@@ -31,7 +31,7 @@ module _ (t : Table) (X : Set ℕ) (test : Set ℕ → Bool) where
     pub folded_closed : (q : Tree SignedId) → ((a d : Spot) → Link t test a f d → IsClosedAt t d b p → FoldsTo t test a d c (Closed q)) → IsClosing t X test fs c q
     folded_closed q folds =
         let l = last_link fs f b p h in
-        record { board = board; wide = still_wide; seed = h.seed; spot = l.0; leads = l.1; closed = (folds l.0 h.spot l.2 h.closed).0 }
+        record { wide = still_wide; seed = h.seed; spot = l.0; leads = l.1; closed = (folds l.0 h.spot l.2 h.closed).0 }
 
     pub room_closed : (q : Tree SignedId) → ((a d : Spot) → Link t test a f d → IsClosedAt t d b p → FoldsTo t test a d c (Closed q)) → room_below c.bits (spot_of c) ≤ room_below b.bits (spot_of b)
     room_closed q folds =
@@ -46,7 +46,7 @@ module _ (t : Table) (X : Set ℕ) (test : Set ℕ → Bool) where
     folded_turned g folds =
         let l = last_link fs f b p h in
         let r = folds l.0 h.spot l.2 h.closed in
-        record { board = board; wide = still_wide; seed = h.seed; leads = chain_on t test fs g (root X) l.0 (spot_of c) l.1 r.link; passes = r.passes }
+        record { wide = still_wide; seed = h.seed; leads = chain_on t test fs g (root X) l.0 (spot_of c) l.1 r.link; passes = r.passes }
 
     pub room_turned : (g : Frame) → ((a d : Spot) → Link t test a f d → IsClosedAt t d b p → FoldsTo t test a d c (Turned g)) → room c < room_below b.bits (spot_of b)
     room_turned g folds =

@@ -1,5 +1,5 @@
 -- What callers see of a saturation.
-use Rattle.std.specs.Prelude.{◌≡◌, ℕ, ◌≤◌, Bool, true, false, IsTrue, Option, Some, None, List, ⊤}
+use Rattle.std.specs.Prelude.{◌≡◌, ℕ, ◌≤◌, Bool, true, false, IsTrue, Option, Some, None, List, [], ◌∷◌, ⊤}
 use Rattle.lw_pool.specs.declared.id.SignedId.{SignedId}
 use Rattle.lw_proof.specs.System.{Set, IsWithin}
 use Rattle.lw_proof.specs.Tree.{Tree}
@@ -16,7 +16,8 @@ use Rattle.lw_sat.specs.declared.saturation.Saturation.{Saturation}
 use Rattle.lw_sat.specs.Closing.{Closes}
 use Rattle.lw_sat.specs.SeedPath.{root, most_steps, IsClosedAt}
 use Rattle.lw_sat.specs.Saturated.{room, IsAt}
-use Rattle.lw_sat.specs.Sets.{top}
+use Rattle.lw_sat.specs.Moves.{Survives}
+use Rattle.lw_sat.specs.Sets.{adding, top}
 
 -- the label, as a set of items
 abbrev pub label : Saturation → Set ℕ
@@ -53,6 +54,20 @@ StateFits t X test frames b _ = ⊤
 abbrev pub IsUnderWay : Table → Set ℕ → (Set ℕ → Bool) → Saturation → Type 0
 IsUnderWay t X test s = StateFits t X test s.frames.items s.board s.state
 
+-- it is under way from the seed, by whatever test holds of the seed
+abbrev pub BeginsFrom : Table → Set ℕ → Saturation → Type 0
+BeginsFrom t X s = (test : Set ℕ → Bool) → IsTrue (test X) → IsUnderWay t X test s
+
+-- it is still under way, from the same seed and by the same test
+abbrev pub GoesOn : Table → Saturation → Saturation → Type 0
+GoesOn t old new = (X : Set ℕ) (test : Set ℕ → Bool) → IsUnderWay t X test old → IsUnderWay t X test new
+
+-- the same, where the test holds of the label with either of two items
+abbrev pub GoesOnSplit : Table → ℕ → ℕ → Saturation → Saturation → Type 0
+GoesOnSplit t one other old new =
+    (X : Set ℕ) (test : Set ℕ → Bool) → IsTrue (test (adding (one ∷ []) (label old))) → IsTrue (test (adding (other ∷ []) (label old))) →
+    IsUnderWay t X test old → IsUnderWay t X test new
+
 -- how much is left to do: it falls with each label that is refused or split
 abbrev pub state_room : Board → State → ℕ
 state_room b Working = room b
@@ -83,6 +98,15 @@ abbrev pub FoundFits : Table → Set ℕ → (Set ℕ → Bool) → Saturation �
 FoundFits t X test s found.Unclosed = IsUnclosedFrom t X test s
 FoundFits t X test s (found.Closed p) = Closes t X p
 
+-- that is found from whatever seed, by whatever test that goes on to hold
+abbrev pub Finds : Table → Saturation → Saturation → Found → Type 0
+Finds t old new found = (X : Set ℕ) (test : Set ℕ → Bool) → Survives t test → IsUnderWay t X test old → FoundFits t X test new found
+
+-- the answer is that an unclosed label waits
+abbrev pub is_unclosed : Found → Bool
+is_unclosed found.Unclosed = true
+is_unclosed (found.Closed p) = false
+
 -- no path of what is held or found has more than n Steps
 abbrev pub FoundSteps : ℕ → Saturation → Found → Type 0
 FoundSteps n s found.Unclosed = steps_held s ≤ n
@@ -93,7 +117,6 @@ abbrev pub RunFits : Table → Set ℕ → (Set ℕ → Bool) → List Frame →
 RunFits t X test frames b None = IsAt t X test frames b × IsUnclosedLabel t (top b.labels)
 RunFits t X test frames b (Some p) = IsClosedAt t (root X) b p
 
--- the state that a fold of frames leads to
-abbrev pub state_from : Option (Tree SignedId) → State
-state_from None = Working
-state_from (Some p) = Closed p
+-- that comes of a run, from whatever seed and by whatever test that goes on to hold
+abbrev pub Runs : Table → List Frame → Board → List Frame → Board → Option (Tree SignedId) → Type 0
+Runs t old b new c found = (X : Set ℕ) (test : Set ℕ → Bool) → Survives t test → IsAt t X test old b → RunFits t X test new c found

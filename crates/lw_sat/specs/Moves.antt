@@ -9,7 +9,7 @@ use Rattle.lw_proof.specs.Derivation.{has_refl, side, premises, Applies}
 use Rattle.lw_proof.specs.Lean.{own_steps, AllHaveNew, HasNew}
 use Rattle.lw_closure.specs.Table.{Table, item_count, entry_at}
 use Rattle.lw_closure.specs.Items.{items, cuts}
-use Rattle.lw_sat.specs.Sets.{adding, HasEach, AreAllBelow}
+use Rattle.lw_sat.specs.Sets.{adding, either, without, HasEach, AreAllBelow}
 
 -- the components of a first and perhaps a second
 abbrev pub listed : ℕ × Option ℕ → List ℕ
@@ -17,8 +17,21 @@ listed s = side s.0 s.1
 
 -- what the rule on the item wants in the set: the item, but for a cut
 abbrev pub needed : Rule → ℕ → List ℕ
+needed Rule.Close item = item ∷ []
+needed Rule.Absurd item = item ∷ []
+needed Rule.One item = item ∷ []
+needed Rule.Two item = item ∷ []
+needed Rule.Refl item = item ∷ []
+needed Rule.Step item = item ∷ []
 needed Rule.Cut item = []
-needed _ item = item ∷ []
+
+-- what a proof that begins with the rule uses, where the one above the rule uses U
+abbrev pub used_alone : Rule → ℕ → ℕ × Option ℕ → Set ℕ → Set ℕ
+used_alone rule item side U = adding (needed rule item) (without (listed side) U)
+
+-- the same where those above the rule's two sides use U and V
+abbrev pub used_branches : Rule → ℕ → ℕ × Option ℕ → ℕ × Option ℕ → Set ℕ → Set ℕ → Set ℕ
+used_branches rule item first second U V = adding (needed rule item) (either (without (listed first) U) (without (listed second) V))
 
 -- the rule on the item is no Step, and leaves a set for each side: the set with that side
 pub record Leaves (t : Table) (rule : Rule) (item : ℕ) (css : List (List ℕ)) : Type 0 where

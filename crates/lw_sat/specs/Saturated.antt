@@ -1,21 +1,17 @@
 -- The course of a saturation: from a seed to unclosed labels, or to a proof that closes it.
-use Rattle.std.specs.Prelude.{ℕ, ◌<◌, ◌≤◌, Bool, true, IsTrue, Option, Some, None, List, ⊤}
+use Rattle.std.specs.Prelude.{ℕ, Bool, true, IsTrue, Option, Some, None, List}
 use Rattle.lw_pool.specs.declared.id.SignedId.{SignedId}
 use Rattle.lw_proof.specs.System.{Set}
 use Rattle.lw_proof.specs.Tree.{Tree}
 use Rattle.lw_proof.specs.Lean.{steps}
 use Rattle.lw_closure.specs.Table.{Table}
-use Rattle.lw_closure.specs.Unclosed.{IsUnclosedLabel}
 use Rattle.lw_sat.specs.declared.board.Board.{Board}
 use Rattle.lw_sat.specs.declared.frame.Frame.{Frame}
-use Rattle.lw_sat.specs.declared.round.Round.{Round}
-use Rattle.lw_sat.specs.declared.round.Round.TheVariants.{Moved, Quiet, Done}
 use Rattle.lw_sat.specs.Sets.{top, IsOfItems}
-use Rattle.lw_sat.specs.SeedPath.{Spot, root, spot_of, Chain, IsBoard, IsClosedAt, IsWide, most_steps, room_at}
+use Rattle.lw_sat.specs.SeedPath.{Spot, root, spot_of, Chain, IsClosedAt, IsWide, most_steps, room_at}
 
 -- the frames lead from the seed X to the label, and the test holds of it and of all that waits
 pub record IsAt (t : Table) (X : Set ℕ) (test : Set ℕ → Bool) (frames : List Frame) (b : Board) : Type 0 where
-  pub board : IsBoard b
   pub wide : IsWide t b
   pub seed : IsOfItems t X
   pub leads : Chain t test (root X) frames (spot_of b)
@@ -23,7 +19,6 @@ pub record IsAt (t : Table) (X : Set ℕ) (test : Set ℕ → Bool) (frames : Li
 
 -- the frames lead from the seed X to a spot that the proof closes
 pub record IsClosing (t : Table) (X : Set ℕ) (test : Set ℕ → Bool) (frames : List Frame) (b : Board) (p : Tree SignedId) : Type 0 where
-  pub board : IsBoard b
   pub wide : IsWide t b
   pub seed : IsOfItems t X
   pub spot : Spot
@@ -35,31 +30,19 @@ abbrev pub FoldsAll : Table → Set ℕ → (Set ℕ → Bool) → List Frame �
 FoldsAll t X test frames b None = IsAt t X test frames b
 FoldsAll t X test frames b (Some p) = IsClosedAt t (root X) b p
 
+-- that comes of frames that lead, from whatever seed and by whatever test, to what the proof closes
+abbrev pub Unwinds : Table → List Frame → Board → Tree SignedId → List Frame → Board → Option (Tree SignedId) → Type 0
+Unwinds t old b proof new c found = (X : Set ℕ) (test : Set ℕ → Bool) → IsClosing t X test old b proof → FoldsAll t X test new c found
+
 -- the test of every set
 abbrev pub every : Set ℕ → Bool
 every X = true
-
--- what one round comes to: a label under work, an unclosed label, or a proof that closes the seed
-abbrev pub RoundFits : Table → Set ℕ → (Set ℕ → Bool) → List Frame → Board → Round → Type 0
-RoundFits t X test frames b Moved = IsAt t X test frames b
-RoundFits t X test frames b Quiet = IsAt t X test frames b × IsUnclosedLabel t (top b.labels)
-RoundFits t X test frames b (Done p) = IsClosedAt t (root X) b p
 
 -- the greatest number of Steps on a path of a proof that is held
 abbrev pub fold_steps : List Frame → Option (Tree SignedId) → ℕ
 fold_steps frames None = most_steps frames
 fold_steps frames (Some p) = steps p
 
-abbrev pub round_steps : List Frame → Round → ℕ
-round_steps frames (Done p) = steps p
-round_steps frames _ = most_steps frames
-
 -- what is left to do at a board
 abbrev pub room : Board → ℕ
 room b = room_at b.bits (spot_of b)
-
--- less is left to do where there is a label under work, and no more where it is unclosed
-abbrev pub RoundFalls : ℕ → ℕ → Round → Type 0
-RoundFalls old new Moved = new < old
-RoundFalls old new Quiet = new ≤ old
-RoundFalls old new (Done p) = ⊤

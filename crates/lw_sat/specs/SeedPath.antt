@@ -1,8 +1,6 @@
 -- The path from the seed to the label that is under work.
-use Rattle.std.specs.Prelude.{◌≡◌, ℕ, ◌+◌, ◌*◌, ◌≤◌, ◌<◌, max, Bool, false, IsTrue, Option, List, [], ◌∷◌, ◌++◌}
-use Rattle.std.specs.List.{list_any}
+use Rattle.std.specs.Prelude.{◌≡◌, ℕ, ◌+◌, ◌*◌, ◌≤◌, ◌<◌, max, Bool, IsTrue, List, [], ◌∷◌, ◌++◌}
 use Rattle.lw_pool.specs.declared.id.SignedId.{SignedId}
-use Rattle.lw_proof.specs.declared.rule.Rule.{Rule}
 use Rattle.lw_proof.specs.System.{Set}
 use Rattle.lw_proof.specs.Tree.{Tree}
 use Rattle.lw_proof.specs.Lean.{steps}
@@ -12,10 +10,9 @@ use Rattle.lw_sat.specs.declared.frame.Frame.{Frame}
 use Rattle.lw_sat.specs.declared.frame.Frame.TheVariants.{Alone, First, Second}
 use Rattle.lw_sat.specs.declared.frame.Folded.{Folded}
 use Rattle.lw_sat.specs.declared.frame.Folded.TheVariants.{Closed, Turned}
-use Rattle.lw_sat.specs.Sets.{adding, top, lower, sets, HasTop, weight, weights}
+use Rattle.lw_sat.specs.Sets.{adding, top, lower, sets, weight, weights}
 use Rattle.lw_sat.specs.Moves.{listed, Moves}
 use Rattle.lw_sat.specs.Closing.{Rests}
-use Rattle.lw_rows.specs.RowStack.{IsRegion}
 
 -- a point of the path: the set that is to be closed there, the sets of the branch points before it, and the used items of the branches that
 -- are closed
@@ -32,18 +29,27 @@ root X = record { set = X; below = []; kept = [] }
 abbrev pub spot_of : Board → Spot
 spot_of b = record { set = top b.labels; below = lower b.labels; kept = sets b.used }
 
--- the rows are as long as the board says, and there is a label
-pub record IsBoard (b : Board) : Type 0 where
-  pub label : HasTop b.labels
-  pub used : IsRegion b.used
-  pub long : b.bits ≡ 64 * b.labels.width
-  pub equal : b.bits ≡ 64 * b.used.width
-
 -- the board stands at the spot a now, with rows as long as before
 pub record Becomes (old new : Board) (a : Spot) : Type 0 where
-  pub board : IsBoard new
   pub spot : spot_of new ≡ a
   pub bits : new.bits ≡ old.bits
+
+-- the label is a branch point now, and a copy of it is under work
+abbrev pub IsForked : Board → Board → Type 0
+IsForked old new = Becomes old new (record (spot_of old) { below = lower old.labels ++ top old.labels ∷ [] })
+
+-- the last branch point is the label again
+abbrev pub GoesBack : Board → Board → Type 0
+GoesBack old new = (Xs : List (Set ℕ)) (X : Set ℕ) → lower old.labels ≡ Xs ++ X ∷ [] → Becomes old new (record (spot_of old) { set = X; below = Xs })
+
+-- what is in the label is kept as the used items of one more closed branch
+abbrev pub KeepsUsed : Board → Board → Type 0
+KeepsUsed old new = Becomes old new (record (spot_of old) { kept = sets old.used ++ top old.labels ∷ [] })
+
+-- the used items of the last closed branch are kept no longer: of these, U, the label is made
+abbrev pub TakesKept : Board → Board → (Set ℕ → Set ℕ) → Type 0
+TakesKept old new made =
+    (Us : List (Set ℕ)) (U : Set ℕ) → sets old.used ≡ Us ++ U ∷ [] → Becomes old new (record (spot_of old) { set = made U; kept = Us })
 
 -- each item has a bit
 abbrev pub IsWide : Table → Board → Type 0
@@ -101,14 +107,10 @@ abbrev pub FoldsTo : Table → (Set ℕ → Bool) → Spot → Spot → Board �
 FoldsTo t test a b board (Closed p) = IsClosedAt t a board p × (room_below board.bits a ≤ room_below board.bits b)
 FoldsTo t test a b board (Turned f) = IsTurned t test a b f board
 
--- what comes of the closed first premise of a rule at the branch point X: where its proof uses nothing of what the rule adds, the proof and
--- what it uses stand for X, else the second premise is under work
-abbrev pub TurnsFirst : Board → Board → Rule → ℕ → ℕ × Option ℕ → ℕ × Option ℕ → Tree SignedId → List (Set ℕ) → Set ℕ → Folded → Type 0
-TurnsFirst old new rule item p q proof Bs X (Closed found) =
-    (found ≡ proof) × (list_any (top old.labels) (listed p) ≡ false) × Becomes old new (record (spot_of old) { below = Bs })
-TurnsFirst old new rule item p q proof Bs X (Turned frame) =
-    (frame ≡ Second rule item p q proof)
-    × Becomes old new (record { set = adding (listed q) X; below = Bs; kept = sets old.used ++ top old.labels ∷ [] })
+-- that comes of the frame, whatever spots it leads between, where the proof closes its premise
+abbrev pub FoldsFrame : Table → Frame → Board → Board → Tree SignedId → Folded → Type 0
+FoldsFrame t frame old new proof folded =
+    (test : Set ℕ → Bool) (a b : Spot) → Link t test a frame b → IsClosedAt t b old proof → FoldsTo t test a b new folded
 
 -- the greatest number of Steps on a path of what comes of it
 abbrev pub folded_steps : Folded → ℕ

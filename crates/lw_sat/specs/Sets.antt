@@ -1,9 +1,9 @@
 -- Sets of items as rows of bits have them, and how much a set lacks.
-use Rattle.std.specs.Prelude.{◌≡◌, ℕ, zero, suc, ◌+◌, ◌-◌, ◌*◌, ◌<◌, ◌≤◌, Bool, false, not, IsTrue, ◌&&◌, ◌||◌, if◌then◌else◌, List, [], ◌∷◌, map, take, length, nat_eq, ⊤}
+use Rattle.std.specs.Prelude.{ℕ, zero, suc, ◌+◌, ◌-◌, ◌*◌, ◌<◌, Bool, false, not, IsTrue, ◌&&◌, ◌||◌, if◌then◌else◌, List, [], ◌∷◌, map, take, length, nat_eq, ⊤}
 use Rattle.std.specs.List.{list_any, slice_index_or}
 use Rattle.lw_proof.specs.System.{Set}
 use Rattle.lw_closure.specs.Table.{Table, item_count}
-use Rattle.lw_rows.specs.RowStack.{Region, IsRegion, bit_in}
+use Rattle.lw_rows.specs.RowStack.{Region, bit_in}
 
 -- the set of the numbers whose bits a row has
 abbrev pub has : List Bool → Set ℕ
@@ -58,18 +58,6 @@ sets r = map has r.rows
 
 abbrev pub lower : Region → List (Set ℕ)
 lower r = map has (take (length r.rows - 1) r.rows)
-
--- the stack has a last row
-pub record HasTop (r : Region) : Type 0 where
-  pub some : 1 ≤ length r.rows
-  pub region : IsRegion r
-
--- the set of the last row is X now, and all else is as before
-pub record Replaces (old new : Region) (X : Set ℕ) : Type 0 where
-  pub there : HasTop new
-  pub top : top new ≡ X
-  pub lower : lower new ≡ lower old
-  pub width : new.width ≡ old.width
 
 -- three times as much for each number below n that the set lacks
 abbrev pub weight : Set ℕ → ℕ → ℕ

@@ -1,7 +1,8 @@
 // The last row of a stack of rows of bits, as a set of items.
 ghost use Rattle.std.specs.Prelude.{◌≡◌, ◌*◌, ◌<◌, [], ◌∷◌, ◌||◌};
 ghost use Rattle.std.specs.List.{list_any};
-ghost use Rattle.lw_sat.specs.Sets.{adding, either, nothing, top, without, AreBelow, HasTop, Replaces};
+ghost use Rattle.lw_sat.specs.Sets.{adding, either, nothing, top, without, AreBelow};
+ghost use Rattle.lw_sat.specs.Private.LastRow.{HasTop, Replaces};
 ghost use Rattle.lw_sat.specs.Moves.{listed};
 
 use crate::frame::Side;

@@ -1,9 +1,9 @@
-ghost use Rattle.std.specs.Prelude.{◌≡◌, ℕ, ◌+◌, ◌*◌, ◌<◌, ◌≤◌, List, [], ◌∷◌, ◌++◌, length, OnOk, IfOk};
-ghost use Rattle.lw_proof.specs.System.{Set};
+ghost use Rattle.std.specs.Prelude.{◌≡◌, ◌+◌, ◌*◌, ◌<◌, ◌≤◌, [], ◌∷◌, length, OnOk, IfOk};
 ghost use Rattle.std.specs.List.{list_any};
-ghost use Rattle.lw_sat.specs.Sets.{adding, either, lower, nothing, sets, top, without, AreBelow};
-ghost use Rattle.lw_sat.specs.Moves.{listed, needed};
-ghost use Rattle.lw_sat.specs.SeedPath.{spot_of, root, IsBoard, Becomes};
+ghost use Rattle.lw_rows.specs.RowStack.{IsRegion};
+ghost use Rattle.lw_sat.specs.Sets.{adding, lower, nothing, sets, top, without, AreBelow};
+ghost use Rattle.lw_sat.specs.Moves.{listed, needed, used_alone, used_branches};
+ghost use Rattle.lw_sat.specs.Private.LastRow.{HasTop};
 
 use crate::bits::{add, add_side, clear, pour, remove, remove_side};
 use crate::frame::Side;
@@ -20,13 +20,19 @@ pub struct Board {
     pub(crate) used: Rows,
     // how many bits a row has
     pub(crate) bits: usize,
+    // there is a label, and the rows of both stacks have so many bits
+    ghost label: { HasTop labels },
+    ghost kept: { IsRegion used },
+    ghost long: { bits ≡ 64 * labels.width },
+    ghost equal: { bits ≡ 64 * used.width },
 }
 
 impl Board {
+    ghost use Rattle.lw_sat.specs.SeedPath.{spot_of, root, Becomes, GoesBack, IsForked, KeepsUsed, TakesKept};
+
     /// A board for so many items, with one label, which is empty.
     pub fn new(alloc: Global, items: usize) -> Result<Board, AllocError>
         requires { items < 64 * 64 }
-        ensures board { IfOk result (λ board. IsBoard board) }
         ensures spot { IfOk result (λ board. spot_of board ≡ root nothing) }
         ensures wide { IfOk result (λ board. items ≤ board.bits) }
         ensures few { IfOk result (λ board. board.bits ≤ items + 64) }
@@ -44,17 +50,14 @@ impl Board {
 
     /// Whether the label has the item.
     pub fn has(&self, item: usize) -> bool
-        requires board { IsBoard self.now }
-        requires inside { item < self.now.bits }
         ensures { result ≡ top self.now.labels item }
     {
-        crate::bits::has(&self.labels, item)
+        item < self.bits && crate::bits::has(&self.labels, item)
     }
 
     /// Whether the label has one of the components.
     pub fn has_any(&self, side: Side) -> bool
-        requires board { IsBoard self.now }
-        requires inside { AreBelow self.now.bits (listed side) }
+        requires { AreBelow self.now.bits (listed side) }
         ensures { result ≡ list_any (top self.now.labels) (listed side) }
     {
         crate::bits::has_any(&self.labels, side)
@@ -62,8 +65,7 @@ impl Board {
 
     /// Puts the components into the label.
     pub fn add_side(&mut self, side: Side)
-        requires board { IsBoard self.old }
-        requires inside { AreBelow self.old.bits (listed side) }
+        requires { AreBelow self.old.bits (listed side) }
         ensures { Becomes self.old self.new (record (spot_of self.old) { set = adding (listed side) (top self.old.labels) }) }
     {
         add_side(&mut self.labels, side);
@@ -71,8 +73,7 @@ impl Board {
 
     /// Takes the item out of the label.
     pub fn remove(&mut self, item: usize)
-        requires board { IsBoard self.old }
-        requires inside { item < self.old.bits }
+        requires { item < self.old.bits }
         ensures { Becomes self.old self.new (record (spot_of self.old) { set = without (item ∷ []) (top self.old.labels) }) }
     {
         remove(&mut self.labels, item);
@@ -80,8 +81,7 @@ impl Board {
 
     /// Makes the label a branch point: a copy of it is the label.
     pub fn fork(&mut self) -> Result<(), AllocError>
-        requires { IsBoard self.old }
-        ensures { OnOk result (Becomes self.old self.new (record (spot_of self.old) { below = lower self.old.labels ++ top self.old.labels ∷ [] })) }
+        ensures { OnOk result (IsForked self.old self.new) }
     {
         self.labels.reserve(1)?;
         self.labels.push_copy();
@@ -90,17 +90,15 @@ impl Board {
 
     /// Goes back to the last branch point, which is the label again.
     pub fn go_back(&mut self)
-        requires board { IsBoard self.old }
-        requires below { 1 ≤ length (lower self.old.labels) }
-        ensures { (Xs : List (Set ℕ)) (X : Set ℕ) → lower self.old.labels ≡ Xs ++ X ∷ [] → Becomes self.old self.new (record (spot_of self.old) { set = X; below = Xs }) }
+        requires { 1 ≤ length (lower self.old.labels) }
+        ensures { GoesBack self.old self.new }
     {
         self.labels.pop();
     }
 
     /// Keeps what is in the label as the used items of one more closed branch.
     pub fn keep(&mut self) -> Result<(), AllocError>
-        requires { IsBoard self.old }
-        ensures { OnOk result (Becomes self.old self.new (record (spot_of self.old) { kept = sets self.old.used ++ top self.old.labels ∷ [] })) }
+        ensures { OnOk result (KeepsUsed self.old self.new) }
     {
         self.used.reserve(1)?;
         self.used.push_empty();
@@ -110,18 +108,16 @@ impl Board {
 
     /// Forgets the used items of the last closed branch.
     pub fn forget(&mut self)
-        requires board { IsBoard self.old }
-        requires kept { 1 ≤ length (sets self.old.used) }
-        ensures { (Xs : List (Set ℕ)) (U : Set ℕ) → sets self.old.used ≡ Xs ++ U ∷ [] → Becomes self.old self.new (record (spot_of self.old) { kept = Xs }) }
+        requires { 1 ≤ length (sets self.old.used) }
+        ensures { TakesKept self.old self.new (λ U. top self.old.labels) }
     {
         self.used.pop();
     }
 
     /// Puts the used items of the last closed branch into the label, in place of what is there.
     pub fn restore(&mut self)
-        requires board { IsBoard self.old }
-        requires kept { 1 ≤ length (sets self.old.used) }
-        ensures { (Xs : List (Set ℕ)) (U : Set ℕ) → sets self.old.used ≡ Xs ++ U ∷ [] → Becomes self.old self.new (record (spot_of self.old) { set = U; kept = Xs }) }
+        requires { 1 ≤ length (sets self.old.used) }
+        ensures { TakesKept self.old self.new (λ U. U) }
     {
         clear(&mut self.labels);
         pour(&self.used, &mut self.labels, self.bits);
@@ -130,10 +126,9 @@ impl Board {
 
     /// From what the proof above a rule with one premise uses, makes what the proof with the rule uses.
     pub fn use_alone(&mut self, rule: Rule, item: usize, side: Side)
-        requires board { IsBoard self.old }
         requires item { item < self.old.bits }
         requires inside { AreBelow self.old.bits (listed side) }
-        ensures { Becomes self.old self.new (record (spot_of self.old) { set = adding (needed rule item) (without (listed side) (top self.old.labels)) }) }
+        ensures { Becomes self.old self.new (record (spot_of self.old) { set = used_alone rule item side (top self.old.labels) }) }
     {
         remove_side(&mut self.labels, side);
         self.need(rule, item);
@@ -141,12 +136,11 @@ impl Board {
 
     /// The same of a rule with two premises, where the used items of the first are the last that were kept.
     pub fn use_branches(&mut self, rule: Rule, item: usize, first: Side, second: Side)
-        requires board { IsBoard self.old }
         requires kept { 1 ≤ length (sets self.old.used) }
         requires item { item < self.old.bits }
         requires first_inside { AreBelow self.old.bits (listed first) }
         requires second_inside { AreBelow self.old.bits (listed second) }
-        ensures { (Xs : List (Set ℕ)) (U : Set ℕ) → sets self.old.used ≡ Xs ++ U ∷ [] → Becomes self.old self.new (record (spot_of self.old) { set = adding (needed rule item) (either (without (listed first) U) (without (listed second) (top self.old.labels))); kept = Xs }) }
+        ensures { TakesKept self.old self.new (λ U. used_branches rule item first second U (top self.old.labels)) }
     {
         remove_side(&mut self.used, first);
         remove_side(&mut self.labels, second);
@@ -157,20 +151,20 @@ impl Board {
 
     /// Puts in what the rule on the item wants.
     fn need(&mut self, rule: Rule, item: usize)
-        requires board { IsBoard self.old }
-        requires item { item < self.old.bits }
+        requires { item < self.old.bits }
         ensures { Becomes self.old self.new (record (spot_of self.old) { set = adding (needed rule item) (top self.old.labels) }) }
     {
         match rule {
+            Rule::Close | Rule::Absurd | Rule::One | Rule::Two | Rule::Refl | Rule::Step => {
+                add(&mut self.labels, item);
+            }
             Rule::Cut => {}
-            _ => add(&mut self.labels, item),
         }
     }
 
     /// Puts the two items, or the one, in place of what is in the label.
     pub fn use_leaf(&mut self, side: Side)
-        requires board { IsBoard self.old }
-        requires inside { AreBelow self.old.bits (listed side) }
+        requires { AreBelow self.old.bits (listed side) }
         ensures { Becomes self.old self.new (record (spot_of self.old) { set = adding (listed side) nothing }) }
     {
         clear(&mut self.labels);

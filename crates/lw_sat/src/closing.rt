@@ -1,9 +1,9 @@
 // From a closed label down to the last branch point whose other side is open.
-ghost use Rattle.std.specs.Prelude.{◌≡◌, ℕ, ◌<◌, ◌≤◌, Bool, max, IfNone, IfOk, OnOk};
+ghost use Rattle.std.specs.Prelude.{◌≡◌, ℕ, ◌<◌, ◌≤◌, max, IfNone, IfOk, OnOk};
 ghost use Rattle.lw_proof.specs.Lean.{steps};
 ghost use Rattle.lw_proof.specs.System.{Set};
-ghost use Rattle.lw_sat.specs.SeedPath.{most_steps, room_below, spot_of, IsBoard};
-ghost use Rattle.lw_sat.specs.Saturated.{every, fold_steps, room, FoldsAll, IsClosing};
+ghost use Rattle.lw_sat.specs.SeedPath.{most_steps, room_below, spot_of};
+ghost use Rattle.lw_sat.specs.Saturated.{every, fold_steps, room, IsClosing, Unwinds};
 
 use crate::board::Board;
 use crate::fold::fold_frame;
@@ -22,8 +22,7 @@ pub fn unwind(
     proof: Proof,
 ) -> Result<Option<Proof>, AllocError>
     requires { (X : Set ℕ) × IsClosing closure.now X every frames.old.items board.old proof }
-    ensures folded { (X : Set ℕ) (test : Set ℕ → Bool) → IsClosing closure.now X test frames.old.items board.old proof → IfOk result (FoldsAll closure.now X test frames.new.items board.new) }
-    ensures board { OnOk result (IsBoard board.new) }
+    ensures folded { IfOk result (Unwinds closure.now frames.old.items board.old proof frames.new.items board.new) }
     ensures bits { OnOk result (board.new.bits ≡ board.old.bits) }
     ensures falls { IfOk result (λ found. IfNone found (room board.new < room_below board.old.bits (spot_of board.old))) }
     ensures steps { IfOk result (λ found. fold_steps frames.new.items found ≤ max (most_steps frames.old.items) (steps proof)) }

@@ -1,14 +1,14 @@
 // What a closed premise makes of the rule below it.
-ghost use Rattle.std.specs.Prelude.{◌≡◌, ℕ, ◌*◌, ◌<◌, ◌≤◌, Bool, List, [], ◌∷◌, ◌++◌, length, max, IfOk, OnOk};
+ghost use Rattle.std.specs.Prelude.{◌≡◌, ℕ, ◌<◌, ◌≤◌, List, [], ◌∷◌, ◌++◌, length, max, IfOk, OnOk};
 ghost use Rattle.lw_pool.specs.declared.id.SignedId.{SignedId};
 ghost use Rattle.lw_proof.specs.Lean.{own_steps, steps};
 ghost use Rattle.lw_proof.specs.System.{Set};
 ghost use Rattle.lw_proof.specs.Tree.{node, more, none};
 ghost use Rattle.lw_closure.specs.Table.{item_at, item_count};
-ghost use Rattle.lw_sat.specs.Closing.{Rests};
-ghost use Rattle.lw_sat.specs.Moves.{listed, Moves};
-ghost use Rattle.lw_sat.specs.SeedPath.{folded_steps, held_steps, spot_of, Becomes, ClosesAbove, FoldsTo, IsBoard, IsClosedAt, IsWide, Link, Spot, TurnsFirst};
-ghost use Rattle.lw_sat.specs.Sets.{adding, lower, sets, top, AreBelow};
+ghost use Rattle.lw_sat.specs.Moves.{listed};
+ghost use Rattle.lw_sat.specs.SeedPath.{folded_steps, held_steps, spot_of, Becomes, ClosesAbove, FoldsFrame, IsWide, TakesKept};
+ghost use Rattle.lw_sat.specs.Sets.{lower, sets, top, AreBelow};
+ghost use Rattle.lw_sat.specs.Private.ClosedPremises.{FoldsFirst, RestsAlone, RestsBoth};
 
 use crate::board::Board;
 use crate::frame::{Folded, Frame, Side};
@@ -73,13 +73,12 @@ fn fold_alone(
     side: Side,
     proof: Proof,
 ) -> Result<Proof, AllocError>
-    requires board { IsBoard board.old }
     requires still { own_steps rule ≡ 0 }
     requires item { item < item_count closure.now }
     requires item_inside { item < board.old.bits }
     requires inside { AreBelow board.old.bits (listed side) }
     ensures stays { Becomes board.old board.new (record (spot_of board.old) { set = top board.new.labels }) }
-    ensures rests { IfOk result (λ p. (X : Set ℕ) → Moves closure.now X rule item (listed side ∷ []) → Rests closure.now (top board.old.labels) (adding (listed side) X) proof → Rests closure.now (top board.new.labels) X p) }
+    ensures rests { IfOk result (RestsAlone closure.now board.old board.new rule item side proof) }
     ensures steps { IfOk result (λ p. steps p ≤ steps proof) }
 {
     if !board.has_any(side) {
@@ -103,15 +102,14 @@ fn fold_second(
     first_proof: Proof,
     proof: Proof,
 ) -> Result<Proof, AllocError>
-    requires board { IsBoard board.old }
     requires still { own_steps rule ≡ 0 }
     requires kept { 1 ≤ length (sets board.old.used) }
     requires item { item < item_count closure.now }
     requires item_inside { item < board.old.bits }
     requires first_inside { AreBelow board.old.bits (listed first) }
     requires second_inside { AreBelow board.old.bits (listed second) }
-    ensures stays { (Ks : List (Set ℕ)) (U : Set ℕ) → sets board.old.used ≡ Ks ++ U ∷ [] → Becomes board.old board.new (record (spot_of board.old) { set = top board.new.labels; kept = Ks }) }
-    ensures rests { IfOk result (λ p. (Ks : List (Set ℕ)) (U X : Set ℕ) → sets board.old.used ≡ Ks ++ U ∷ [] → Moves closure.now X rule item (listed first ∷ listed second ∷ []) → Rests closure.now U (adding (listed first) X) first_proof → Rests closure.now (top board.old.labels) (adding (listed second) X) proof → Rests closure.now (top board.new.labels) X p) }
+    ensures stays { TakesKept board.old board.new (λ U. top board.new.labels) }
+    ensures rests { IfOk result (RestsBoth closure.now board.old board.new rule item first second first_proof proof) }
     ensures steps { IfOk result (λ p. steps p ≤ max (steps first_proof) (steps proof)) }
 {
     if !board.has_any(second) {
@@ -133,11 +131,10 @@ fn fold_first(
     second: Side,
     proof: Proof,
 ) -> Result<Folded, AllocError>
-    requires board { IsBoard board.old }
     requires below { (Bs : List (Set ℕ)) × (X : Set ℕ) × (lower board.old.labels ≡ Bs ++ X ∷ []) }
     requires first_inside { AreBelow board.old.bits (listed first) }
     requires second_inside { AreBelow board.old.bits (listed second) }
-    ensures { (Bs : List (Set ℕ)) (X : Set ℕ) → lower board.old.labels ≡ Bs ++ X ∷ [] → IfOk result (TurnsFirst board.old board.new rule item first second proof Bs X) }
+    ensures { IfOk result (FoldsFirst board.old board.new rule item first second proof) }
 {
     let needed = board.has_any(first);
     board.keep()?;
@@ -166,12 +163,10 @@ pub fn fold_frame(
     frame: Frame,
     proof: Proof,
 ) -> Result<Folded, AllocError>
-    requires board { IsBoard board.old }
     requires wide { IsWide closure.now board.old }
     requires above { ClosesAbove closure.now frame board.old proof }
-    ensures board { OnOk result (IsBoard board.new) }
     ensures bits { OnOk result (board.new.bits ≡ board.old.bits) }
-    ensures folded { (test : Set ℕ → Bool) (a b : Spot) → Link closure.now test a frame b → IsClosedAt closure.now b board.old proof → IfOk result (FoldsTo closure.now test a b board.new) }
+    ensures folded { IfOk result (FoldsFrame closure.now frame board.old board.new proof) }
     ensures steps { IfOk result (λ folded. folded_steps folded ≤ max (held_steps frame) (steps proof)) }
 {
     match frame {

@@ -1,8 +1,9 @@
 // Rules that put something into the label.
-ghost use Rattle.std.specs.Prelude.{◌≡◌, ◌++◌, [], ◌∷◌, IfOk, OnOk};
+ghost use Rattle.std.specs.Prelude.{◌≡◌, IfOk, OnOk};
 ghost use Rattle.lw_sat.specs.Moves.{listed};
-ghost use Rattle.lw_sat.specs.SeedPath.{spot_of, Becomes, IsBoard};
-ghost use Rattle.lw_sat.specs.Sets.{adding, lower, top, AreBelow};
+ghost use Rattle.lw_sat.specs.SeedPath.{spot_of, Becomes};
+ghost use Rattle.lw_sat.specs.Sets.{adding, top, AreBelow};
+ghost use Rattle.lw_sat.specs.Private.GrownBoards.{Branches};
 ghost use Rattle.lw_sat.specs.declared.frame.Frame.TheVariants.{Alone, First};
 
 use crate::board::Board;
@@ -12,8 +13,7 @@ use std::alloc::AllocError;
 
 /// Puts the components of a rule with one premise into the label, and gives the rule's frame.
 pub fn grow(board: &mut Board, rule: Rule, item: usize, side: Side) -> Frame
-    requires board { IsBoard board.old }
-    requires inside { AreBelow board.old.bits (listed side) }
+    requires { AreBelow board.old.bits (listed side) }
     ensures frame { result ≡ Alone rule item side }
     ensures grown { Becomes board.old board.new (record (spot_of board.old) { set = adding (listed side) (top board.old.labels) }) }
 {
@@ -30,10 +30,9 @@ pub fn branch(
     first: Side,
     second: Side,
 ) -> Result<Frame, AllocError>
-    requires board { IsBoard board.old }
-    requires inside { AreBelow board.old.bits (listed first) }
+    requires { AreBelow board.old.bits (listed first) }
     ensures frame { IfOk result (λ frame. frame ≡ First rule item first second) }
-    ensures grown { OnOk result (Becomes board.old board.new (record (spot_of board.old) { set = adding (listed first) (top board.old.labels); below = lower board.old.labels ++ top board.old.labels ∷ [] })) }
+    ensures grown { OnOk result (Branches board.old board.new (listed first)) }
 {
     board.fork()?;
     board.add_side(first);

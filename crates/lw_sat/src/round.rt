@@ -1,13 +1,14 @@
 // The rounds of a saturation.
-ghost use Rattle.std.specs.Prelude.{◌≡◌, ℕ, ◌<◌, ◌≤◌, Bool, max, IfNone, IfOk, OnOk, [], ◌∷◌};
+ghost use Rattle.std.specs.Prelude.{◌≡◌, ℕ, ◌<◌, ◌≤◌, IfNone, IfOk, OnOk, [], ◌∷◌};
 ghost use Rattle.lw_proof.specs.System.{Set};
 ghost use Rattle.lw_proof.specs.Tree.{node, none};
 ghost use Rattle.lw_closure.specs.Table.{item_at, item_count};
-ghost use Rattle.lw_sat.specs.Moves.{listed, Survives};
-ghost use Rattle.lw_sat.specs.SeedPath.{most_steps, spot_of, Becomes, IsBoard};
-ghost use Rattle.lw_sat.specs.Course.{RunFits};
-ghost use Rattle.lw_sat.specs.Saturated.{every, fold_steps, room, round_steps, IsAt, RoundFalls, RoundFits};
+ghost use Rattle.lw_sat.specs.Moves.{listed};
+ghost use Rattle.lw_sat.specs.SeedPath.{most_steps, spot_of, Becomes};
+ghost use Rattle.lw_sat.specs.Course.{Runs};
+ghost use Rattle.lw_sat.specs.Saturated.{every, fold_steps, room, IsAt};
 ghost use Rattle.lw_sat.specs.Sets.{adding, nothing, AreBelow};
+ghost use Rattle.lw_sat.specs.Private.RoundEnds.{round_steps, Advances, RoundFalls};
 
 use crate::board::Board;
 use crate::closing::unwind;
@@ -38,7 +39,6 @@ fn close(
     item: usize,
     used: Side,
 ) -> Proof
-    requires board { IsBoard board.old }
     requires item { item < item_count closure.now }
     requires inside { AreBelow board.old.bits (listed used) }
     ensures proof { result ≡ node rule (item_at closure.now item) none }
@@ -56,8 +56,7 @@ pub fn advance(
     board: &mut Board,
 ) -> Result<Round, AllocError>
     requires { (X : Set ℕ) × IsAt closure.now X every frames.old.items board.old }
-    ensures fits { (X : Set ℕ) (test : Set ℕ → Bool) → Survives closure.now test → IsAt closure.now X test frames.old.items board.old → IfOk result (RoundFits closure.now X test frames.new.items board.new) }
-    ensures board { OnOk result (IsBoard board.new) }
+    ensures fits { IfOk result (Advances closure.now frames.old.items board.old frames.new.items board.new) }
     ensures bits { OnOk result (board.new.bits ≡ board.old.bits) }
     ensures falls { IfOk result (RoundFalls (room board.old) (room board.new)) }
     ensures steps { IfOk result (λ round. round_steps frames.new.items round ≤ most_steps frames.old.items) }
@@ -97,8 +96,7 @@ pub fn run(
     board: &mut Board,
 ) -> Result<Option<Proof>, AllocError>
     requires { (X : Set ℕ) × IsAt closure.now X every frames.old.items board.old }
-    ensures found { (X : Set ℕ) (test : Set ℕ → Bool) → Survives closure.now test → IsAt closure.now X test frames.old.items board.old → IfOk result (RunFits closure.now X test frames.new.items board.new) }
-    ensures board { OnOk result (IsBoard board.new) }
+    ensures found { IfOk result (Runs closure.now frames.old.items board.old frames.new.items board.new) }
     ensures bits { OnOk result (board.new.bits ≡ board.old.bits) }
     ensures falls { IfOk result (λ found. IfNone found (room board.new ≤ room board.old)) }
     ensures steps { IfOk result (λ found. fold_steps frames.new.items found ≤ most_steps frames.old.items) }

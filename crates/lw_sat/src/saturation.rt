@@ -1,15 +1,15 @@
 // Saturations as callers have them.
-ghost use Rattle.std.specs.Prelude.{◌≡◌, ℕ, ◌+◌, ◌*◌, ◌<◌, ◌≤◌, Bool, true, false, IsTrue, All, IfNone, IfOk, IsErr, OnErr, OnOk, [], ◌∷◌, length, max};
+ghost use Rattle.std.specs.Prelude.{◌≡◌, ℕ, ◌+◌, ◌*◌, ◌<◌, ◌≤◌, false, IsTrue, All, IfOk, IsErr, OnErr, OnOk, length, max};
 ghost use Rattle.lw_proof.specs.Derivation.{has_cut, is_modal_part};
 ghost use Rattle.lw_proof.specs.Lean.{steps};
 ghost use Rattle.lw_proof.specs.System.{Set};
 ghost use Rattle.lw_closure.specs.Table.{entry_at, item_count};
 ghost use Rattle.lw_sat.specs.Closing.{Closes};
-ghost use Rattle.lw_sat.specs.Moves.{Survives};
-ghost use Rattle.lw_sat.specs.SeedPath.{most_steps, IsBoard};
-ghost use Rattle.lw_sat.specs.Saturated.{every, fold_steps, room, FoldsAll, IsAt};
-ghost use Rattle.lw_sat.specs.Course.{is_ready, label, state_from, steps_held, waits, work_left, FoundFits, FoundSteps, IsFailed, IsUnderWay, RunFits};
-ghost use Rattle.lw_sat.specs.Sets.{adding, among};
+ghost use Rattle.lw_sat.specs.Saturated.{every};
+ghost use Rattle.lw_sat.specs.Course.{is_ready, is_unclosed, label, steps_held, waits, work_left, Finds, FoundSteps};
+ghost use Rattle.lw_sat.specs.Course.{GoesOn, GoesOnSplit, BeginsFrom, IsFailed, IsUnderWay};
+ghost use Rattle.lw_sat.specs.Sets.{among};
+ghost use Rattle.lw_sat.specs.Private.FoldedStates.{state_from};
 
 use crate::board::Board;
 use crate::closing::unwind;
@@ -75,7 +75,7 @@ impl Saturation {
     ) -> Result<Saturation, AllocError>
         requires logic { closure.now.logic ≡ logic }
         requires items { All (λ item. item < item_count closure.now) seed.now }
-        ensures under { (test : Set ℕ → Bool) → IsTrue (test (among seed.now)) → IfOk result (IsUnderWay closure.now (among seed.now) test) }
+        ensures under { IfOk result (BeginsFrom closure.now (among seed.now)) }
         ensures ready { IfOk result (λ saturation. IsTrue (is_ready saturation)) }
         ensures steps { IfOk result (λ saturation. steps_held saturation ≡ 0) }
     {
@@ -90,12 +90,13 @@ impl Saturation {
         })
     }
 
-    /// Goes on until an unclosed label waits or the seed is closed. Where memory runs out, no label waits, and each
-    /// later call fails too. No label may wait, and `Closed` may not have been answered.
+    /// Goes on until an unclosed label waits or the seed is closed; after `Closed` no label waits. Where memory runs
+    /// out, no label waits, and each later call fails too. No label may wait, and `Closed` may not have been answered.
     pub fn next(&mut self, closure: &Closure) -> Result<Found, AllocError>
         requires under { (X : Set ℕ) × IsUnderWay closure.now X every self.old }
         requires ready { IsTrue (is_ready self.old) }
-        ensures found { (X : Set ℕ) (test : Set ℕ → Bool) → Survives closure.now test → IsUnderWay closure.now X test self.old → IfOk result (FoundFits closure.now X test self.new) }
+        ensures found { IfOk result (Finds closure.now self.old self.new) }
+        ensures waits { IfOk result (λ found. waits self.new ≡ is_unclosed found) }
         ensures steps { IfOk result (FoundSteps (steps_held self.old) self.new) }
         ensures work { work_left self.new ≤ work_left self.old }
         ensures failed { OnErr result (IsFailed self.new) }
@@ -121,11 +122,9 @@ impl Saturation {
         }
     }
 
-    /// Whether the label that waits has the item.
+    /// Whether the label that waits has the item. It has no number beyond the items of the closure.
     pub fn has(&self, item: usize) -> bool
-        requires waits { IsTrue (waits self.now) }
-        requires board { IsBoard self.now.board }
-        requires inside { item < self.now.board.bits }
+        requires { IsTrue (waits self.now) }
         ensures { result ≡ label self.now item }
     {
         self.board.has(item)
@@ -137,7 +136,7 @@ impl Saturation {
         requires under { (X : Set ℕ) × IsUnderWay closure.now X every self.old }
         requires waits { IsTrue (waits self.old) }
         requires closes { Closes closure.now (label self.old) proof }
-        ensures under { (X : Set ℕ) (test : Set ℕ → Bool) → IsUnderWay closure.now X test self.old → IsUnderWay closure.now X test self.new }
+        ensures under { GoesOn closure.now self.old self.new }
         ensures ready { IsTrue (is_ready self.new) }
         ensures steps { OnOk result (steps_held self.new ≤ max (steps_held self.old) (steps proof)) }
         ensures work { work_left self.new < work_left self.old }
@@ -160,7 +159,7 @@ impl Saturation {
         requires modal { IsTrue (is_modal_part (entry_at closure.now (2 * formula)).parts) }
         requires positive { label self.old (2 * formula) ≡ false }
         requires negative { label self.old (2 * formula + 1) ≡ false }
-        ensures under { (X : Set ℕ) (test : Set ℕ → Bool) → IsTrue (test (adding ((2 * formula) ∷ []) (label self.old))) → IsTrue (test (adding ((2 * formula + 1) ∷ []) (label self.old))) → IsUnderWay closure.now X test self.old → IsUnderWay closure.now X test self.new }
+        ensures under { GoesOnSplit closure.now (2 * formula) (2 * formula + 1) self.old self.new }
         ensures ready { IsTrue (is_ready self.new) }
         ensures steps { OnOk result (steps_held self.new ≤ steps_held self.old) }
         ensures work { work_left self.new < work_left self.old }

@@ -1,21 +1,20 @@
 // What is left to do at a label.
 ghost use Rattle.std.specs.Prelude.{◌≡◌, ◌*◌, ◌<◌, ◌≤◌, ◌&&◌, IsTrue, ◌⊎◌, [], ◌∷◌, false, length};
 ghost use Rattle.std.specs.Bool.{OnTrue, OnFalse};
-ghost use Rattle.lw_proof.specs.Derivation.{has_refl};
 ghost use Rattle.lw_proof.specs.Lean.{HasNew};
 ghost use Rattle.lw_closure.specs.Mapping.{OfBoth};
 ghost use Rattle.lw_closure.specs.Table.{entry_at, flip_item, item_count, IsTable};
 ghost use Rattle.lw_closure.specs.Unclosed.{IsServed, IsUnclosedLabel};
 ghost use Rattle.lw_sat.specs.Moves.{listed};
-ghost use Rattle.lw_sat.specs.SeedPath.{IsBoard, IsWide};
-ghost use Rattle.lw_sat.specs.Sets.{adding, top, AreBelow, IsOfItems};
+ghost use Rattle.lw_sat.specs.SeedPath.{IsWide};
+ghost use Rattle.lw_sat.specs.Sets.{adding, top, IsOfItems};
 ghost use Rattle.lw_sat.specs.Private.LabelWork.{is_nothing, IsQuiet, IsWork};
 
 use crate::board::Board;
 use crate::frame::Side;
 use lw_closure::{Closure, flip};
-use lw_formula::{Logic, Parts};
-use lw_proof::Rule;
+use lw_formula::Parts;
+use lw_proof::{Rule, has_refl};
 
 /// What a label asks for.
 #[derive(Clone, Copy)]
@@ -42,17 +41,8 @@ pub enum Work {
     Nothing,
 }
 
-/// Whether the worlds of the logic see themselves.
-pub fn is_reflexive(logic: Logic) -> bool
-    ensures { result ≡ has_refl logic }
-{
-    !matches!(logic, Logic::K | Logic::GL)
-}
-
 // Whether the label lacks one of the components.
 fn lacks(board: &Board, side: Side) -> bool
-    requires board { IsBoard board.now }
-    requires inside { AreBelow board.now.bits (listed side) }
     ensures new { OnTrue result (HasNew (top board.now.labels) (adding (listed side) (top board.now.labels))) }
     ensures old { OnFalse result (OfBoth (λ c. IsTrue (top board.now.labels c)) side) }
 {
@@ -61,7 +51,6 @@ fn lacks(board: &Board, side: Side) -> bool
 
 // The rule without premises that the item in the label is there for.
 fn leaf_of(closure: &Closure, board: &Board, item: usize) -> Work
-    requires board { IsBoard board.now }
     requires wide { IsWide closure.now board.now }
     requires item { item < item_count closure.now }
     requires there { IsTrue (top board.now.labels item) }
@@ -90,7 +79,6 @@ fn leaf_of(closure: &Closure, board: &Board, item: usize) -> Work
 // The components that the item in the label asks for.
 fn components_of(closure: &Closure, board: &Board, item: usize) -> Work
     requires table { IsTable closure.now }
-    requires board { IsBoard board.now }
     requires wide { IsWide closure.now board.now }
     requires item { item < item_count closure.now }
     requires there { IsTrue (top board.now.labels item) }
@@ -108,7 +96,7 @@ fn components_of(closure: &Closure, board: &Board, item: usize) -> Work
             first,
             second,
         },
-        Parts::Nu(inner) if is_reflexive(closure.logic()) && !board.has(inner) => Work::Only {
+        Parts::Nu(inner) if has_refl(closure.logic()) && !board.has(inner) => Work::Only {
             rule: Rule::Refl,
             item,
             side: (inner, None),
@@ -120,7 +108,6 @@ fn components_of(closure: &Closure, board: &Board, item: usize) -> Work
 // What the item in the label asks for.
 fn work_of(closure: &Closure, board: &Board, item: usize) -> Work
     requires table { IsTable closure.now }
-    requires board { IsBoard board.now }
     requires wide { IsWide closure.now board.now }
     requires item { item < item_count closure.now }
     requires there { IsTrue (top board.now.labels item) }
@@ -147,7 +134,6 @@ fn sooner(one: Work, other: Work) -> Work
 
 /// What the label asks for: first what closes it, then what doesn't branch.
 pub fn find(closure: &Closure, board: &Board) -> Work
-    requires board { IsBoard board.now }
     requires wide { IsWide closure.now board.now }
     requires items { IsOfItems closure.now (top board.now.labels) }
     ensures work { IsWork closure.now (top board.now.labels) result }

@@ -1,5 +1,6 @@
 use Rattle.std.proofs.Common.{◌+◌, sym, ◌∙◌, ap, ◌∷◌, [], arith, subst, refl}
-use Rattle.lw_sat.specs.Sets.{adding, top, Replaces}
+use Rattle.lw_sat.specs.Sets.{adding, top}
+use Rattle.lw_sat.specs.Private.LastRow.{Replaces}
 use Rattle.lw_sat.proofs.LastRowChanges.{poured, poured_more, poured_same, poured_all, poured_none, replaces_on, replaces_as}
 use Rattle.lw_sat.proofs.bits.pour.Goals as goal
 use Rattle.lw_sat.proofs.bits.pour.Goals.{then-has, else-has}

@@ -1,4 +1,5 @@
-use Rattle.lw_sat.specs.Sets.{top, Replaces}
+use Rattle.lw_sat.specs.Sets.{top}
+use Rattle.lw_sat.specs.Private.LastRow.{Replaces}
 use Rattle.lw_sat.proofs.LastRowChanges.{poured}
 use Rattle.lw_sat.proofs.bits.pour.Given as goal
 

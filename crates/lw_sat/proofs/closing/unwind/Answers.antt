@@ -6,9 +6,6 @@ use Rattle.lw_sat.proofs.PathEnds.{most_steps-on}
 use Rattle.lw_sat.proofs.UnwoundFrames.{all_closed, closes_above, folded_closed, folded_turned, room_closed, room_turned}
 use Rattle.lw_sat.proofs.closing.unwind.Goals as goal
 
-pub fold_frame-requires-clause-board : goal.fold_frame-requires-clause-board
-fold_frame-requires-clause-board c = (c.loop-frame.invariant.closing c.requires.0 every c.requires.1).board
-
 pub fold_frame-requires-clause-wide : goal.fold_frame-requires-clause-wide
 fold_frame-requires-clause-wide c = (c.loop-frame.invariant.closing c.requires.0 every c.requires.1).wide
 
@@ -27,17 +24,14 @@ loop-frame-preserved c =
     let held = ap most_steps c.in-Some.ensures.items ∙ most_steps-on fs c.in-Some.frame in
     let found = ap folded_steps c.in-Closed.is in
     record {
-      closing = λ X test h. folded_closed t X test fs c.in-Some.frame b c.fold_frame.new.board c.loop-frame.proof (last X test h) c.in_ok-whole.ensures.board c.in_ok-whole.ensures.bits c.in-Closed.whole
+      closing = λ X test h. folded_closed t X test fs c.in-Some.frame b c.fold_frame.new.board c.loop-frame.proof (last X test h) c.in_ok-whole.ensures.bits c.in-Closed.whole
           (λ a d l k. subst (λ f. FoldsTo t test a d c.fold_frame.new.board f) c.in-Closed.is (c.in_ok-whole.ensures.folded test a d l k));
-      room = (let less = room_closed t c.requires.0 every fs c.in-Some.frame b c.fold_frame.new.board c.loop-frame.proof (last c.requires.0 every c.requires.1) c.in_ok-whole.ensures.board c.in_ok-whole.ensures.bits c.in-Closed.whole
+      room = (let less = room_closed t c.requires.0 every fs c.in-Some.frame b c.fold_frame.new.board c.loop-frame.proof (last c.requires.0 every c.requires.1) c.in_ok-whole.ensures.bits c.in-Closed.whole
           (λ a d l k. subst (λ f. FoldsTo t every a d c.fold_frame.new.board f) c.in-Closed.is (c.in_ok-whole.ensures.folded every a d l k)) in
           omega (arith, less, c.loop-frame.invariant.room));
       bits = c.in_ok-whole.ensures.bits ∙ c.loop-frame.invariant.bits;
       steps = omega (arith, held, found, c.in_ok-whole.ensures.steps, c.loop-frame.invariant.steps);
     }
-
-pub returns-clause-board : goal.returns-clause-board
-returns-clause-board c = (c.loop-frame.invariant.closing c.requires.0 every c.requires.1).board
 
 pub returns-in-Turned-clause-folded : goal.returns-in-Turned-clause-folded
 returns-in-Turned-clause-folded c X test h =
@@ -47,7 +41,7 @@ returns-in-Turned-clause-folded c X test h =
     subst (λ gs. IsAt t X test gs c.fold_frame.new.board) (sym c.in_ok-push-in-Turned.ensures.items)
     (folded_turned t X test fs c.in-Some.frame b c.fold_frame.new.board c.loop-frame.proof
     (subst (λ gs. IsClosing t X test gs b c.loop-frame.proof) c.in-Some.ensures.items (c.loop-frame.invariant.closing X test h))
-    c.in_ok-whole.ensures.board c.in_ok-whole.ensures.bits c.in-Turned.turned
+    c.in_ok-whole.ensures.bits c.in-Turned.turned
     (λ a d l k. subst (λ f. FoldsTo t test a d c.fold_frame.new.board f) c.in-Turned.is (c.in_ok-whole.ensures.folded test a d l k)))
 
 pub returns-in-Turned-clause-falls : goal.returns-in-Turned-clause-falls
@@ -57,7 +51,7 @@ returns-in-Turned-clause-falls c =
     let less =
     room_turned t c.requires.0 every c.pop.new.self.items c.in-Some.frame b c.fold_frame.new.board c.loop-frame.proof
     (subst (λ gs. IsClosing t c.requires.0 every gs b c.loop-frame.proof) c.in-Some.ensures.items (c.loop-frame.invariant.closing c.requires.0 every c.requires.1))
-    c.in_ok-whole.ensures.board c.in_ok-whole.ensures.bits c.in-Turned.turned
+    c.in_ok-whole.ensures.bits c.in-Turned.turned
     (λ a d l k. subst (λ f. FoldsTo t every a d c.fold_frame.new.board f) c.in-Turned.is (c.in_ok-whole.ensures.folded every a d l k)) in
     omega (arith, less, c.loop-frame.invariant.room)
 

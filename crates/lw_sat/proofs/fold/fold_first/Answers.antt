@@ -4,21 +4,15 @@ use Rattle.lw_sat.specs.Moves.{listed}
 use Rattle.lw_sat.proofs.BoardSpots.{keep_then_back, kept_of, lower_of, back_restored, label_more, pushed_some}
 use Rattle.lw_sat.proofs.fold.fold_first.Goals as goal
 
-pub go_back-requires-clause-below : goal.go_back-requires-clause-below
-go_back-requires-clause-below c = pushed_some _ c.requires.below.0 c.requires.below.1 (lower_of _ _ _ c.in_ok-keep.ensures ∙ c.requires.below.2)
+pub go_back-requires : goal.go_back-requires
+go_back-requires c = pushed_some _ c.requires.below.0 c.requires.below.1 (lower_of _ _ _ c.in_ok-keep.ensures ∙ c.requires.below.2)
 
-pub restore-requires-clause-board : goal.restore-requires-clause-board
-restore-requires-clause-board c = (keep_then_back _ _ _ c.requires.below.0 c.requires.below.1 c.in_ok-keep.ensures c.requires.below.2 c.go_back.ensures).board
-
-pub restore-requires-clause-kept : goal.restore-requires-clause-kept
-restore-requires-clause-kept c =
+pub restore-requires : goal.restore-requires
+restore-requires c =
     pushed_some _ _ _ (kept_of _ _ _ (keep_then_back _ _ _ c.requires.below.0 c.requires.below.1 c.in_ok-keep.ensures c.requires.below.2 c.go_back.ensures))
 
-pub add_side-requires-clause-board : goal.add_side-requires-clause-board
-add_side-requires-clause-board c = (keep_then_back _ _ _ c.requires.below.0 c.requires.below.1 c.in_ok-keep.ensures c.requires.below.2 c.go_back.ensures).board
-
-pub add_side-requires-clause-inside : goal.add_side-requires-clause-inside
-add_side-requires-clause-inside c =
+pub add_side-requires : goal.add_side-requires
+add_side-requires c =
     subst (λ n. AreBelow n (listed c.args.second)) (sym (keep_then_back _ _ _ c.requires.below.0 c.requires.below.1 c.in_ok-keep.ensures c.requires.below.2 c.go_back.ensures).bits)
     c.requires.second_inside
 

@@ -7,9 +7,6 @@ use Rattle.lw_sat.proofs.PathEnds.{most_steps-on}
 use Rattle.lw_sat.proofs.OneRound.{at_items, branched, branched_room, grown, grown_room, leaf_closing}
 use Rattle.lw_sat.proofs.round.advance.Goals as goal
 
-pub find-requires-clause-board : goal.find-requires-clause-board
-find-requires-clause-board c = c.requires.1.board
-
 pub find-requires-clause-wide : goal.find-requires-clause-wide
 find-requires-clause-wide c = c.requires.1.wide
 

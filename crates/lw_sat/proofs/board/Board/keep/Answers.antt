@@ -1,5 +1,4 @@
-use Rattle.std.proofs.Common.{◌∙◌, ap}
-use Rattle.std.proofs.Common.{◌++◌, ◌∷◌, []}
+use Rattle.std.proofs.Common.{◌++◌, ◌∷◌, [], ◌∙◌, refl, ap}
 use Rattle.lw_sat.specs.Sets.{sets, top}
 use Rattle.lw_sat.proofs.BoardSpots.{becomes_kept, pushed_full, unchanged}
 use Rattle.lw_sat.proofs.board.Board.keep.Goals as goal
@@ -8,6 +7,5 @@ pub returns : goal.returns
 returns c =
     let reserved = c.in_ok-reserve.ensures.ok in
     let pushed = c.push_empty.ensures.pushed in
-    becomes_kept c.args.self.now c.args.self.now.labels c.pour.new.into _ _ c.requires (unchanged c.args.self.now.labels c.requires.label) c.pour.ensures.there.region
-    (c.pour.ensures.width ∙ ap (λ r. r.width) pushed ∙ ap (λ r. r.width) reserved)
-    (pushed_full c.reserve.new.self c.push_empty.new.self c.pour.new.into (top c.args.self.now.labels) _ pushed c.pour.ensures ∙ ap (λ r. sets r ++ top c.args.self.now.labels ∷ []) reserved)
+    becomes_kept c.args.self.now _ _ _ (unchanged c.args.self.now.labels c.args.self.now.label)
+    (pushed_full c.reserve.new.self c.push_empty.new.self c.pour.new.into (top c.args.self.now.labels) _ pushed c.pour.ensures ∙ ap (λ r. sets r ++ top c.args.self.now.labels ∷ []) reserved) refl

@@ -8,7 +8,6 @@ pub loop-item-preserved : goal.loop-item-preserved
 loop-item-preserved c =
     let h = c.loop-item.invariant in
     record {
-      board = c.add_side.ensures.board;
       spot = seed_added c.args.seed.now c.loop-item.item-index c.loop-item.board c.add_side.new.self c.loop-item-test.true h.spot c.add_side.ensures;
       wide = (let bits = c.add_side.ensures.bits in let wide = h.wide in omega arith);
     }
@@ -17,4 +16,4 @@ pub returns-clause-under : goal.returns-clause-under
 returns-clause-under c test passes =
     let h = c.loop-item.invariant in
     subst (λ fs. IsAt c.args.closure.now (among c.args.seed.now) test fs c.loop-item.board) (sym c.new-2.ensures.items)
-    (seed_at c.args.closure.now c.args.seed.now test c.loop-item.item-index c.loop-item.board h.board h.wide h.spot c.loop-item-test.false c.requires.items passes)
+    (seed_at c.args.closure.now c.args.seed.now test c.loop-item.item-index c.loop-item.board h.wide h.spot c.loop-item-test.false c.requires.items passes)
