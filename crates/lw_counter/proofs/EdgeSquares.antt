@@ -1,5 +1,5 @@
 -- The square of a fragment's edges.
-use Rattle.std.proofs.Common.{◌≡◌, ℕ, ◌+◌, ◌<◌, ◌≤◌, true, false, Some, None, List, [], ◌∷◌, ◌++◌, length, get_or, take, inl, inr, refl, ap, sym, subst, ◌∙◌, arith}
+use Rattle.std.proofs.Common.{◌≡◌, ℕ, ◌+◌, ◌<◌, ◌≤◌, true, false, Some, None, List, [], ◌∷◌, ◌++◌, length, get_or, take, inl, inr, ap, sym, subst, ◌∙◌, arith}
 use Rattle.std.specs.Bool.{IsTrue}
 use Rattle.std.specs.List.{Contains}
 use Rattle.std.proofs.lemmas.Bool.{false≢true}
@@ -71,30 +71,22 @@ pub links_end : (links : List (ℕ × ℕ)) (s t : Square) (i : ℕ) → SetsBit
 links_end links s t i a l = subst (λ xs. SetsBits s t (λ w v. Contains xs (w, v))) (take_all i links l) a
 
 -- the edges, where links don't count, and where they do
-pub edges_plain : (L : Logic) (f : Fragment) (s t : Square) → ¬ (L ≡ S4) → IsSquareOf (length f.worlds) (λ _ _. IsTrue false) s → SetsBits s t (λ w v. (world_at f v).parent ≡ Some w) → IsSquareOf (length f.worlds) (IsEdge L f) t
-edges_plain L f s t other a b = record {
+pub edges_plain : (L : Logic) (f : Fragment) (s t : Square) → has_links L ≡ false → IsSquareOf (length f.worlds) (λ _ _. IsTrue false) s → SetsBits s t (λ w v. (world_at f v).parent ≡ Some w) → IsSquareOf (length f.worlds) (IsEdge L f) t
+edges_plain L f s t none a b = record {
   count = b.count ∙ a.count;
   joins = λ w v l k. (
     (λ x. elim (b.bits.only w v x) [ inl old ↦ absurd (false≢true ((a.joins w v l k).0 old)) | inr new ↦ inl new ]),
-    (λ x. elim x [ inl child ↦ b.bits.adds w v child | inr link ↦ absurd (other (linked L link.0)) ]),
+    (λ x. elim x [ inl child ↦ b.bits.adds w v child | inr link ↦ absurd (false≢true (sym none ∙ link.0)) ]),
   );
 }
-  where
-    linked : (L : Logic) → has_links L ≡ true → L ≡ S4
-    linked S4 e = refl
-    linked K e = absurd (false≢true e)
-    linked KT e = absurd (false≢true e)
-    linked S5 e = absurd (false≢true e)
-    linked GL e = absurd (false≢true e)
-    linked Grz e = absurd (false≢true e)
 
-pub edges_linked : (L : Logic) (f : Fragment) (s t u : Square) → L ≡ S4 → IsSquareOf (length f.worlds) (λ _ _. IsTrue false) s → SetsBits s t (λ w v. (world_at f v).parent ≡ Some w) → SetsBits t u (λ w v. Contains f.links (w, v)) → IsSquareOf (length f.worlds) (IsEdge L f) u
+pub edges_linked : (L : Logic) (f : Fragment) (s t u : Square) → has_links L ≡ true → IsSquareOf (length f.worlds) (λ _ _. IsTrue false) s → SetsBits s t (λ w v. (world_at f v).parent ≡ Some w) → SetsBits t u (λ w v. Contains f.links (w, v)) → IsSquareOf (length f.worlds) (IsEdge L f) u
 edges_linked L f s t u e a b g = record {
   count = g.count ∙ b.count ∙ a.count;
   joins = λ w v l k. (
     (λ x. elim (g.bits.only w v x) [
       | inl old ↦ elim (b.bits.only w v old) [ inl none ↦ absurd (false≢true ((a.joins w v l k).0 none)) | inr child ↦ inl child ]
-      | inr link ↦ inr (ap has_links e, link)
+      | inr link ↦ inr (e, link)
     ]),
     (λ x. elim x [ inl child ↦ g.bits.keeps w v (b.bits.adds w v child) | inr link ↦ g.bits.adds w v link.1 ]),
   );

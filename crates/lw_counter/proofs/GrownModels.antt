@@ -18,6 +18,7 @@ use Rattle.lw_counter.specs.Countermodel.{IsModelOf}
 use Rattle.lw_counter.specs.Fragment.{Fragment, world_at, formulas_of}
 use Rattle.lw_counter.specs.FragmentPaths.{IsRelated}
 use Rattle.lw_counter.specs.Private.BuiltRelation.{Square, Joins, AddsPairs, AddsFacts, IsSquareOf}
+use Rattle.lw_counter.specs.Private.LabelFacts.{SaysTrue, FactsBelow}
 use Rattle.lw_counter.proofs.BitSquares.{adds_same, adds_then, adds_as, last_or}
 
 -- one pair
@@ -94,10 +95,6 @@ rows_end s m k n a e = record {
       (λ w v x. inl (subst (λ y. w < y) (sym e) x.0, x));
 }
 
--- the letters that are signed T among items
-abbrev pub SaysTrue : List Formula → Table → List ℕ → List ℕ → Type 0
-SaysTrue ts t items p = (i : ℕ) × Contains items i × (signed_of ts t i ≡ (T, letter p))
-
 module _ (ts : List Formula) (t : Table) where
   -- the loop over a label
   abbrev pub FactsOf : ℕ → List ℕ → ℕ → ℕ → List ℕ → Type 0
@@ -148,17 +145,14 @@ module _ (ts : List Formula) (t : Table) where
   }
 
   -- the loop over the worlds
-  abbrev pub FactsBelow : Fragment → ℕ → ℕ → List ℕ → Type 0
-  FactsBelow f i w p = (w < i) × SaysTrue ts t ((world_at f w).label) p
+  pub worlds_none : (m : FiniteModel) (f : Fragment) → AddsFacts m m (FactsBelow ts t f 0)
+  worlds_none m f = record { worlds = refl; pairs = refl; facts = adds_same (HasFact m) (FactsBelow ts t f 0) (λ w p x. (let l : w < 0 = x.0 in absurd (omega arith))) }
 
-  pub worlds_none : (m : FiniteModel) (f : Fragment) → AddsFacts m m (FactsBelow f 0)
-  worlds_none m f = record { worlds = refl; pairs = refl; facts = adds_same (HasFact m) (FactsBelow f 0) (λ w p x. (let l : w < 0 = x.0 in absurd (omega arith))) }
-
-  pub worlds_more : (m k u : FiniteModel) (f : Fragment) (i : ℕ) → AddsFacts m k (FactsBelow f i) → AddsFacts k u (λ w p. (w ≡ i) × SaysTrue ts t ((world_at f i).label) p) → AddsFacts m u (FactsBelow f (i + 1))
+  pub worlds_more : (m k u : FiniteModel) (f : Fragment) (i : ℕ) → AddsFacts m k (FactsBelow ts t f i) → AddsFacts k u (λ w p. (w ≡ i) × SaysTrue ts t ((world_at f i).label) p) → AddsFacts m u (FactsBelow ts t f (i + 1))
   worlds_more m k u f i a b = record {
     worlds = b.worlds ∙ a.worlds;
     pairs = b.pairs ∙ a.pairs;
-    facts = adds_then (HasFact m) (HasFact k) (HasFact u) (FactsBelow f i) (λ w p. (w ≡ i) × SaysTrue ts t ((world_at f i).label) p) (FactsBelow f (i + 1)) a.facts b.facts
+    facts = adds_then (HasFact m) (HasFact k) (HasFact u) (FactsBelow ts t f i) (λ w p. (w ≡ i) × SaysTrue ts t ((world_at f i).label) p) (FactsBelow ts t f (i + 1)) a.facts b.facts
         (λ w p x. (omega arith, x.1))
         (λ w p x. (omega arith, subst (λ y. SaysTrue ts t ((world_at f y).label) p) (sym x.0) x.1))
         (λ w p x. elim (last_or i w x.0) [ inl l ↦ inl (l, x.1) | inr q ↦ inr (q, subst (λ y. SaysTrue ts t ((world_at f y).label) p) q x.1) ]);
@@ -166,7 +160,7 @@ module _ (ts : List Formula) (t : Table) where
 
   -- the model with the pairs of the relation and the facts of the labels
   pub made : (L : Logic) (f : Fragment) (s : Square) (k m : FiniteModel) → IsSquareOf (length f.worlds) (IsRelated L f) s →
-      AddsPairs (record { worlds = length f.worlds; pairs = []; facts = [] }) k (Joins s) → AddsFacts k m (FactsBelow f (length f.worlds)) → IsWellFormed m → IsModelOf L f (formulas_of ts t f) m
+      AddsPairs (record { worlds = length f.worlds; pairs = []; facts = [] }) k (Joins s) → AddsFacts k m (FactsBelow ts t f (length f.worlds)) → IsWellFormed m → IsModelOf L f (formulas_of ts t f) m
   made L f s k m r a b formed = record {
     well_formed = formed;
     worlds = b.worlds ∙ a.worlds;

@@ -6,8 +6,12 @@ use Rattle.lw_counter.specs.Fragment.{Fragment, world_at}
 
 -- the logic in which links count as edges
 abbrev pub has_links : Logic → Bool
+has_links K = false
+has_links KT = false
 has_links S4 = true
-has_links _ = false
+has_links S5 = false
+has_links GL = false
+has_links Grz = false
 
 -- an edge leads from a parent to its child, and in S4 along a link
 abbrev pub IsEdge : Logic → Fragment → ℕ → ℕ → Type 0

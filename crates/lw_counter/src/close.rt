@@ -6,8 +6,9 @@ ghost use Rattle.lw_pool.specs.Region.{IsLive};
 ghost use Rattle.lw_closure.specs.Table.{item_count, signed_of};
 ghost use Rattle.lw_counter.specs.Countermodel.{IsModelOf};
 ghost use Rattle.lw_counter.specs.Fragment.{formulas_of, world_at, HasItemsOf, IsFormed};
-ghost use Rattle.lw_counter.specs.FragmentPaths.{IsEdge, IsRelated};
+ghost use Rattle.lw_counter.specs.FragmentPaths.{has_links, IsEdge, IsRelated};
 ghost use Rattle.lw_counter.specs.Private.BuiltRelation.{Joins, AddsFacts, AddsPairs, IsSquareOf, SetsBits};
+ghost use Rattle.lw_counter.specs.Private.LabelFacts.{FactsBelow, SaysTrue};
 
 use crate::fragment::Fragment;
 use crate::relation::Relation;
@@ -52,10 +53,20 @@ fn edges(fragment: &Fragment, logic: Logic) -> Result<Relation, AllocError>
 {
     let mut relation = Relation::new(fragment.allocator(), fragment.count(), false)?;
     add_children(&mut relation, fragment);
-    if logic == Logic::S4 {
+    if has_links(logic) {
         add_links(&mut relation, fragment);
     }
     Ok(relation)
+}
+
+// Whether links count as edges in the logic.
+fn has_links(logic: Logic) -> bool
+    ensures { result ≡ has_links logic }
+{
+    match logic {
+        Logic::K | Logic::KT | Logic::S5 | Logic::GL | Logic::Grz => false,
+        Logic::S4 => true,
+    }
 }
 
 // Relates each world to its children.
@@ -115,7 +126,7 @@ fn add_facts(
     requires count { model.old.worlds ≡ length fragment.now.worlds }
     requires items { HasItemsOf closure.now fragment.now }
     requires live { All (IsLive pool.now) closure.now.forms }
-    ensures added { OnOk result (AddsFacts model.old model.new (λ w p. (w < length fragment.now.worlds) × ((i : ℕ) × Contains (world_at fragment.now w).label i × (signed_of pool.now closure.now i ≡ (T, letter p))))) }
+    ensures added { OnOk result (AddsFacts model.old model.new (FactsBelow pool.now closure.now fragment.now (length fragment.now.worlds))) }
     ensures well_formed { OnOk result (IsWellFormed model.new) }
 {
     for world in 0..fragment.count() {
@@ -137,7 +148,7 @@ fn add_facts_at(
     requires world { world < model.old.worlds }
     requires items { All (λ i. i < item_count closure.now) label.now }
     requires live { All (IsLive pool.now) closure.now.forms }
-    ensures { OnOk result (AddsFacts model.old model.new (λ w p. (w ≡ world) × ((i : ℕ) × Contains label.now i × (signed_of pool.now closure.now i ≡ (T, letter p))))) }
+    ensures { OnOk result (AddsFacts model.old model.new (λ w p. (w ≡ world) × SaysTrue pool.now closure.now label.now p)) }
 {
     for item in label {
         if let Some(name) = variable(closure, pool, *item) {

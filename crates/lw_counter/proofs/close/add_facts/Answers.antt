@@ -1,6 +1,7 @@
 use Rattle.std.proofs.Common.{◌≡◌, arith, subst}
 use Rattle.lw_counter.specs.Private.BuiltRelation.{AddsFacts}
-use Rattle.lw_counter.proofs.GrownModels.{SaysTrue, worlds_more, FactsBelow}
+use Rattle.lw_counter.proofs.GrownModels.{worlds_more}
+use Rattle.lw_counter.specs.Private.LabelFacts.{SaysTrue, FactsBelow}
 use Rattle.lw_counter.proofs.close.add_facts.Goals as goal
 
 pub loop-world-preserved : goal.loop-world-preserved

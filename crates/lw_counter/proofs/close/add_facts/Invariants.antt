@@ -1,6 +1,6 @@
 use Rattle.std.proofs.Common.{◌≡◌, length}
 use Rattle.lw_counter.specs.Private.BuiltRelation.{AddsFacts}
-use Rattle.lw_counter.proofs.GrownModels.{FactsBelow}
+use Rattle.lw_counter.specs.Private.LabelFacts.{FactsBelow}
 use Rattle.lw_counter.proofs.close.add_facts.Given as goal
 
 abbrev pub invariant-loop-world : goal.invariant-loop-world
