@@ -1,10 +1,13 @@
 -- Of each grammar whose counts the tokens determine: tokens have at most one first fault, and a text of the grammar
 -- whose tokens have none has no fault at any token.
-use Rattle.std.proofs.Common.{◌≡◌, ℕ, zero, suc, ◌+◌, ◌<◌, ◌≤◌, Bool, true, false, inl, inr, List, [], ◌∷◌, length, take, drop, get_or, slice_index, refl, sym, ◌∙◌, subst, arith}
-use Rattle.std.proofs.lemmas.List.{take-append-drop, get_or_default}
+use Rattle.std.proofs.Common.{◌≡◌, ℕ, zero, suc, ◌+◌, ◌<◌, ◌≤◌, Bool, true, false, inl, inr, List, [], ◌∷◌, ◌++◌, length, take, drop, get_or, slice_index, refl, sym, ◌∙◌, ap, subst, arith}
+use Rattle.std.proofs.lemmas.List.{take-append-drop, get_or_default, length-take-le}
 use Rattle.std.proofs.lemmas.Bool.{false≢true, cases_lt}
 use Rattle.std.specs.List.{HoldsAt}
 use borrow.Author.Count.{below_more}
+use Rattle.lw_read.specs.Language.{Language, grammar_of}
+use Rattle.lw_read.specs.Machine.{Machine, run, IsReaderOf}
+use Rattle.lw_read.proofs.TokenByToken.{heights-at}
 use Rattle.lw_read.specs.Places.{Grammar, nesting_limit, Begins, HasUnfinished, IsFine, AreFine, FaultKind, Unexpected, TooLong, Nested, HasFirstFault, HasNoFirstFault, HasOneCount, HasOneFirstFault}
 
 module _ {A : Type 0} (G : Grammar A) where
@@ -81,3 +84,14 @@ module _ {A : Type 0} (G : Grammar A) where
   -- a text of the grammar without a fault is fine throughout
   pub faultless-fine : (ts : List A) → HasNoFirstFault G ts → G.IsText ts → AreFine G ts (length ts)
   faultless-fine ts none text = all-fine ts none text (length ts) (omega arith)
+
+module _ {A T S : Type 0} (L : Language A T) (M : Machine A T S) (reads : IsReaderOf L M) where
+  -- the number of unfinished constructs is the height of the machine behind the tokens so far
+  count-is : (ts : List A) (i n : ℕ) → i < length ts → HasUnfinished (grammar_of L) ts i n → n ≡ M.height (run M (take (i + 1) ts) M.start)
+  count-is ts i n h has =
+      let us = take (i + 1) ts in
+      sym has.2 ∙ ap (λ counts. slice_index counts i) (reads.counts (us ++ has.0) has.1.0 has.1.1) ∙ heights-at M i us has.0 M.start (length-take-le (i + 1) ts (omega arith))
+
+  -- so a language that a machine reads has one count at each token
+  pub one-count : HasOneCount (grammar_of L)
+  one-count ts i n m h has also = count-is ts i n h has ∙ sym (count-is ts i m h also)

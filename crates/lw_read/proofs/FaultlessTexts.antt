@@ -1,30 +1,22 @@
 -- A text has at most one fault, and one of the grammar without a fault reads as its tree.
-use Rattle.std.proofs.Common.{◌≡◌, ◌≢◌, ℕ, ◌+◌, ◌<◌, List, [], ◌++◌, length, take, slice_index, refl, sym, ◌∙◌, ap, arith}
-use Rattle.std.proofs.lemmas.List.{length-take-le}
+use Rattle.std.proofs.Common.{◌≡◌, ◌≢◌, ℕ, List, refl, sym, ◌∙◌, ap}
 use Rattle.lw_formula.specs.Formula.{Formula}
 use Rattle.lw_read.specs.declared.fault.ReadFault.{ReadFault}
 use Rattle.lw_read.specs.declared.fault.ReadFault.TheVariants as fault
-use Rattle.lw_read.specs.Lexemes.{Lexeme, lexemes_of}
-use Rattle.lw_read.specs.Places.{FaultKind, Unexpected, TooLong, Nested, HasUnfinished, HasFirstFault, HasNoFirstFault, HasOneCount}
-use Rattle.lw_read.specs.Grammar.{IsFormula, formulas, ReadsAs, IsFaultOf}
+use Rattle.lw_read.specs.Lexemes.{lexemes_of}
+use Rattle.lw_read.specs.Places.{FaultKind, Unexpected, TooLong, Nested, HasFirstFault, HasNoFirstFault, HasOneCount}
+use Rattle.lw_read.specs.Grammar.{IsFormula, formula_language, formulas, ReadsAs, IsFaultOf}
 use Rattle.lw_read.specs.Language.{start_of}
-use Rattle.lw_read.specs.Private.FormulaMachine.{Need, height}
+use Rattle.lw_read.specs.Private.FormulaMachine.{formula_machine}
 use Rattle.lw_read.specs.Text.{text_of}
 use Rattle.lw_formula.specs.Variables.{HasNames}
 use Rattle.lw_read.specs.Laws.{HasOneFault, IsFaultless, HasOneAnswer, ReadsBack}
-use Rattle.lw_read.proofs.FaultPlaces.{fine-no-fault, one-fault, faultless-fine}
-use Rattle.lw_read.proofs.MachineAccepts.{counts-are}
-use Rattle.lw_read.proofs.FirstFaults.{state_behind, heights-at}
+use Rattle.lw_read.proofs.FaultPlaces.{fine-no-fault, one-fault, faultless-fine, one-count}
+use Rattle.lw_read.proofs.FirstFaults.{formulas-read}
 use Rattle.lw_read.proofs.PrintedTokens.{text-reads}
 
--- the number of unfinished constructs is the height of the machine behind the tokens so far
-count-is : (ts : List Lexeme) (i n : ℕ) → i < length ts → HasUnfinished formulas ts i n → n ≡ height (state_behind (take (i + 1) ts))
-count-is ts i n h has =
-    let us = take (i + 1) ts in
-    sym has.2 ∙ ap (λ counts. slice_index counts i) (counts-are (us ++ has.0) has.1) ∙ heights-at i us has.0 (Need []) (length-take-le (i + 1) ts (omega arith))
-
-pub one-count : HasOneCount formulas
-one-count ts i n m h has also = count-is ts i n h has ∙ sym (count-is ts i m h also)
+pub one-count-of : HasOneCount formulas
+one-count-of = one-count formula_language formula_machine formulas-read
 
 -- the fault of a kind at the byte
 abbrev fault_at : FaultKind → ℕ → ReadFault
@@ -49,7 +41,7 @@ pub one-fault-of : (text : List ℕ) → HasOneFault text
 one-fault-of text e f is also real true' =
     let here = placed text e real is in
     let there = placed text f true' also in
-    let same = one-fault formulas one-count (lexemes_of text) here.kind there.kind here.token there.token here.has there.has in
+    let same = one-fault formulas one-count-of (lexemes_of text) here.kind there.kind here.token there.token here.has there.has in
     here.is ∙ ap (λ kind. fault_at kind (start_of text here.token)) same.0 ∙ ap (λ i. fault_at there.kind (start_of text i)) same.1 ∙ sym there.is
 
 -- a text whose faults are want of memory alone has no token with a fault
@@ -70,7 +62,7 @@ reads-back a names = record {
 
 -- a text that reads has no fault
 pub one-answer : (text : List ℕ) → HasOneAnswer text
-one-answer text a reads (fault.Unexpected at) is = absurd (fine-no-fault formulas one-count (lexemes_of text) Unexpected is.0 (reads.0 is.0 is.1.0) is.1)
-one-answer text a reads (fault.Name at) is = absurd (fine-no-fault formulas one-count (lexemes_of text) TooLong is.0 (reads.0 is.0 is.1.0) is.1)
-one-answer text a reads (fault.Nested at) is = absurd (fine-no-fault formulas one-count (lexemes_of text) Nested is.0 (reads.0 is.0 is.1.0) is.1)
+one-answer text a reads (fault.Unexpected at) is = absurd (fine-no-fault formulas one-count-of (lexemes_of text) Unexpected is.0 (reads.0 is.0 is.1.0) is.1)
+one-answer text a reads (fault.Name at) is = absurd (fine-no-fault formulas one-count-of (lexemes_of text) TooLong is.0 (reads.0 is.0 is.1.0) is.1)
+one-answer text a reads (fault.Nested at) is = absurd (fine-no-fault formulas one-count-of (lexemes_of text) Nested is.0 (reads.0 is.0 is.1.0) is.1)
 one-answer text a reads fault.Memory is = refl

@@ -1,5 +1,5 @@
 -- The machine of formulas reads the language of formulas, so it finds the first fault of a text, or its tree.
-use Rattle.std.proofs.Common.{◌≡◌, ℕ, ◌+◌, ◌<◌, List, [], ◌∷◌, ◌++◌, length, take, slice_index, ◌⊎◌, inl, inr, refl, sym, ◌∙◌, ap, subst, arith}
+use Rattle.std.proofs.Common.{◌≡◌, ℕ, ◌<◌, List, [], ◌∷◌, ◌++◌, length, ◌⊎◌, inl, inr, refl, sym, ◌∙◌, ap, subst, arith}
 use Rattle.std.proofs.lemmas.List.{get_or-map, length-map}
 use Rattle.std.specs.List.{slice_range, HoldsAt}
 use Rattle.lw_formula.specs.Formula.{Formula}
@@ -9,12 +9,11 @@ use Rattle.lw_read.specs.declared.text_fault.TextFault.{TextFault}
 use Rattle.lw_read.specs.declared.text_fault.TextFault.TheVariants as fault
 use Rattle.lw_read.specs.Tokens.{tokens_of}
 use Rattle.lw_read.specs.Lexemes.{Lexeme, End, Foreign, kind_lexeme, lexeme_of, lexemes_of}
-use Rattle.lw_read.specs.Places.{HasUnfinished}
 use Rattle.lw_read.specs.Language.{start_of, IsFaultIn}
-use Rattle.lw_read.specs.Grammar.{formulas, formula_language, IsFaultOf, read_fault}
+use Rattle.lw_read.specs.Grammar.{formula_language, IsFaultOf, read_fault}
 use Rattle.lw_read.specs.Machine.{IsReaderOf, IsDone}
-use Rattle.lw_read.specs.Private.FormulaMachine.{Frame, State, Need, Have, Over, Astray, stop, step, run, height, formula_machine}
-use Rattle.lw_read.proofs.MachineAccepts.{accepted, heights, counts-are}
+use Rattle.lw_read.specs.Private.FormulaMachine.{Frame, State, Need, Have, Over, Astray, stop, step, run, formula_machine}
+use Rattle.lw_read.proofs.MachineAccepts.{accepted, counts-are}
 use Rattle.lw_read.proofs.MachineSound.{sound, completes}
 use Rattle.lw_read.proofs.TokenByToken as tokens
 
@@ -61,18 +60,6 @@ formulas-read = record {
   counts = λ ts a tree. counts-are ts (a, tree);
   stops = stops;
 }
-
-pub run-append : (ts us : List Lexeme) (s : State) → run (ts ++ us) s ≡ run us (run ts s)
-run-append = tokens.run-append formula_machine
-
-pub run-astray : (ts : List Lexeme) → run ts Astray ≡ Astray
-run-astray = tokens.run-astray formula_machine (λ t. refl)
-
-pub heights-at : (i : ℕ) (us rest : List Lexeme) (s : State) → length us ≡ i + 1 → slice_index (heights (us ++ rest) s) i ≡ height (run us s)
-heights-at = tokens.heights-at formula_machine
-
-pub alive : (ts : List Lexeme) (i : ℕ) → i < length ts → (state_behind (take (i + 1) ts) ≡ Astray → ⊥) → HasUnfinished formulas ts i (height (state_behind (take (i + 1) ts)))
-alive = tokens.alive formula_language formula_machine formulas-read
 
 -- a token begins at its first byte
 started : (text : List ℕ) (i : ℕ) (token : Token) → i < length (lexemes_of text) → HoldsAt (λ t. t ≡ token) (tokens_of text) i → token.start ≡ start_of text i
