@@ -7,7 +7,7 @@ use Rattle.lw_read.specs.Grammar.{rank, apply, Reads, variable, truth, falsity, 
 use Rattle.lw_read.specs.Constructs as stack
 use Rattle.lw_read.specs.Private.FormulaMachine.{Frame, Awaiting, Left, Bracket, State, Need, Have, Over, Astray, frame_rank, finish, formula_constructs, close, stop, begin, go_on, step, run}
 use Rattle.lw_read.proofs.StackedConstructs.{ended-keeps}
-use Rattle.lw_read.proofs.MachineAccepts.{rank-low, rank-high, Fits, Ends, swallow}
+use Rattle.lw_read.proofs.MachineAccepts.{rank-low, rank-high, BindsNoTighter, Ends, swallow}
 
 -- an expression of a level is one of each looser level
 looser : {m : ℕ} {ts rest : List Lexeme} {a : Formula} → Reads m ts a rest → (n : ℕ) → n ≤ m → Reads n ts a rest
@@ -23,16 +23,16 @@ frame_rank-high (Awaiting sign) = omega arith
 frame_rank-high (Left sign a) = let high = rank-high sign in omega arith
 frame_rank-high Bracket = omega arith
 
-Fits-five : (fs : List Frame) → Fits 5 fs
-Fits-five [] = omega arith
-Fits-five (f ∷ fs) = frame_rank-high f
+BindsNoTighter-five : (fs : List Frame) → BindsNoTighter 5 fs
+BindsNoTighter-five [] = omega arith
+BindsNoTighter-five (f ∷ fs) = frame_rank-high f
 
 -- the tokens of the whole text up to these led to this stack
 abbrev Pending : List Lexeme → List Frame → List Lexeme → Type 0
 Pending whole [] ts = whole ≡ ts
 Pending whole (Awaiting sign ∷ fs) ts = Pending whole fs (Before sign ∷ ts)
 Pending whole (Bracket ∷ fs) ts = Pending whole fs (Open ∷ ts)
-Pending whole (Left sign a ∷ fs) ts = (from : List Lexeme) × Pending whole fs from × Reads (rank sign + 1) from a (Between sign ∷ ts) × Fits (rank sign) fs
+Pending whole (Left sign a ∷ fs) ts = (from : List Lexeme) × Pending whole fs from × Reads (rank sign + 1) from a (Between sign ∷ ts) × BindsNoTighter (rank sign) fs
 
 -- and from there on to an expression of level n
 abbrev Operand : List Lexeme → ℕ → Formula → List Frame → List Lexeme → Type 0
@@ -46,20 +46,20 @@ Good whole (Over a) ts = Reads 1 whole a (End ∷ ts)
 Good whole Astray ts = Unit {0}
 
 -- a construct ends with its last operand
-ended : (whole : List Lexeme) (f : Frame) (m : ℕ) (a : Formula) (fs : List Frame) (ts : List Lexeme) → 0 < frame_rank f → frame_rank f ≤ m → Operand whole m a (f ∷ fs) ts → Operand whole (frame_rank f) (finish f a) fs ts × Fits (frame_rank f) fs
-ended whole (Awaiting sign) m a fs ts low high op = ((Before sign ∷ op.0, op.1, prefixed sign refl (looser op.2 5 high)), Fits-five fs)
-ended whole (Left sign b) m a fs ts low high op = ((op.1.0, op.1.1, joined sign (omega arith) refl op.1.2 (looser op.2 (rank sign) high)), op.1.3)
-ended whole Bracket m a fs ts low high op = absurd (omega arith)
+finishes : (whole : List Lexeme) (f : Frame) (m : ℕ) (a : Formula) (fs : List Frame) (ts : List Lexeme) → 0 < frame_rank f → frame_rank f ≤ m → Operand whole m a (f ∷ fs) ts → Operand whole (frame_rank f) (finish f a) fs ts × BindsNoTighter (frame_rank f) fs
+finishes whole (Awaiting sign) m a fs ts low high op = ((Before sign ∷ op.0, op.1, prefixed sign refl (looser op.2 5 high)), BindsNoTighter-five fs)
+finishes whole (Left sign b) m a fs ts low high op = ((op.1.0, op.1.1, joined sign (omega arith) refl op.1.2 (looser op.2 (rank sign) high)), op.1.3)
+finishes whole Bracket m a fs ts low high op = absurd (omega arith)
 
 -- the operand that is left once the constructs that bind tighter are ended
-left : (whole : List Lexeme) (n : ℕ) (a : Formula) (fs : List Frame) (ts : List Lexeme) → n < 5 → Operand whole 5 a fs ts → let e = stack.ended formula_constructs n a fs in (k : ℕ) × (n < k) × Fits n e.1 × Operand whole k e.0 e.1 ts
-left whole n a fs ts low op = ended-keeps formula_constructs (λ m b gs. Operand whole m b gs ts) (λ m b f gs. ended whole f m b gs ts) n fs 5 a low (Fits-five fs) op
+left : (whole : List Lexeme) (n : ℕ) (a : Formula) (fs : List Frame) (ts : List Lexeme) → n < 5 → Operand whole 5 a fs ts → let e = stack.ended formula_constructs n a fs in (k : ℕ) × (n < k) × BindsNoTighter n e.1 × Operand whole k e.0 e.1 ts
+left whole n a fs ts low op = ended-keeps formula_constructs (λ m b gs. Operand whole m b gs ts) (λ m b f gs. finishes whole f m b gs ts) n fs 5 a low (BindsNoTighter-five fs) op
 
-closes : (whole ts : List Lexeme) (m : ℕ) (a : Formula) (fs : List Frame) → 0 < m → Fits 0 fs → Operand whole m a fs (Close ∷ ts) → Good whole (close a fs) ts
+closes : (whole ts : List Lexeme) (m : ℕ) (a : Formula) (fs : List Frame) → 0 < m → BindsNoTighter 0 fs → Operand whole m a fs (Close ∷ ts) → Good whole (close a fs) ts
 closes whole ts m a (Bracket ∷ fs) lt fits op = (Open ∷ op.0, op.1, bracketed (looser op.2 1 lt))
 closes whole ts m a _ lt fits op = tt
 
-stops : (whole ts : List Lexeme) (m : ℕ) (a : Formula) (fs : List Frame) → 0 < m → Fits 0 fs → Operand whole m a fs (End ∷ ts) → Good whole (stop a fs) ts
+stops : (whole ts : List Lexeme) (m : ℕ) (a : Formula) (fs : List Frame) → 0 < m → BindsNoTighter 0 fs → Operand whole m a fs (End ∷ ts) → Good whole (stop a fs) ts
 stops whole ts m a [] lt fits op = subst (λ from. Reads 1 from a (End ∷ ts)) (sym op.1) (looser op.2 1 lt)
 stops whole ts m a _ lt fits op = tt
 

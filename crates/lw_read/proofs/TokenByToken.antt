@@ -9,7 +9,7 @@ use Rattle.lw_read.specs.declared.text_fault.TextFault.TheVariants as fault
 use Rattle.lw_read.specs.Tokens.{tokens_of}
 use Rattle.lw_read.specs.Places.{nesting_limit, Begins, HasUnfinished, IsFine, AreFine}
 use Rattle.lw_read.specs.Language.{Language, grammar_of, lexemes_in, ReadsIn, IsFaultIn}
-use Rattle.lw_read.specs.Machine.{Machine, run, heights, IsDone, IsReaderOf, Takes, Refuses}
+use Rattle.lw_read.specs.Machine.{Machine, run, heights, IsDone, IsReaderOf, IsTaken, Refuses}
 use Rattle.lw_read.proofs.TokenSteps.{tokens_from-last, tokens-order, token_within}
 
 module _ {A T S : Type 0} (M : Machine A T S) where
@@ -77,10 +77,10 @@ module _ {A T S : Type 0} (L : Language A T) (M : Machine A T S) (reads : IsRead
   pub Reached-none : (text : List ℕ) → Reached L M text 0 M.start
   Reached-none text = record { is = refl; fine = λ i h. absurd (omega arith); low = omega (arith, reads.bare) }
 
-  pub Reached-more : (text : List ℕ) (i : ℕ) (s : S) (d : Token) → i < length (tokens_of text) → Reached L M text i s → Takes L M (L.lexeme_of text (get_or (tokens_of text) i d)) (M.step (L.lexeme_of text (get_or (tokens_of text) i d)) s) → M.height (M.step (L.lexeme_of text (get_or (tokens_of text) i d)) s) ≤ nesting_limit → Reached L M text (i + 1) (M.step (L.lexeme_of text (get_or (tokens_of text) i d)) s)
-  Reached-more text i s d h r takes low = record {
+  pub Reached-more : (text : List ℕ) (i : ℕ) (s : S) (d : Token) → i < length (tokens_of text) → Reached L M text i s → IsTaken L M (L.lexeme_of text (get_or (tokens_of text) i d)) (M.step (L.lexeme_of text (get_or (tokens_of text) i d)) s) → M.height (M.step (L.lexeme_of text (get_or (tokens_of text) i d)) s) ≤ nesting_limit → Reached L M text (i + 1) (M.step (L.lexeme_of text (get_or (tokens_of text) i d)) s)
+  Reached-more text i s d h r taken low = record {
     is = next text i s d h r;
-    fine = below_more (IsFine (grammar_of L) (lexemes_in L text)) i r.fine (holds (λ t. L.is_long t ≡ false) text i d h takes.short, (M.height (M.step (L.lexeme_of text (get_or (tokens_of text) i d)) s), counted text i s d h r takes.on, low));
+    fine = below_more (IsFine (grammar_of L) (lexemes_in L text)) i r.fine (holds (λ t. L.is_long t ≡ false) text i d h taken.short, (M.height (M.step (L.lexeme_of text (get_or (tokens_of text) i d)) s), counted text i s d h r taken.on, low));
     low = low;
   }
 

@@ -20,8 +20,8 @@ module _ {F T : Type 0} (C : Constructs F T) where
   top_rank (f ∷ fs) = C.rank f
 
   -- the innermost construct binds no tighter than the level
-  abbrev pub Fits : ℕ → List F → Type 0
-  Fits level fs = top_rank fs ≤ level
+  abbrev pub BindsNoTighter : ℕ → List F → Type 0
+  BindsNoTighter level fs = top_rank fs ≤ level
 
 module _ {F T S : Type 0} (C : Constructs F T) where
   -- ends the constructs that bind tighter than a level, then goes on

@@ -55,7 +55,7 @@ pub record IsReaderOf {A T S : Type 0} (L : Language A T) (M : Machine A T S) : 
       IsDone M (M.step (L.lexeme_of text token) s)
 
 -- the token that leads to the state is neither unexpected nor too long
-pub record Takes {A T S : Type 0} (L : Language A T) (M : Machine A T S) (t : A) (s : S) : Type 0 where
+pub record IsTaken {A T S : Type 0} (L : Language A T) (M : Machine A T S) (t : A) (s : S) : Type 0 where
   pub on : s ≢ M.astray
   pub short : L.is_long t ≡ false
 

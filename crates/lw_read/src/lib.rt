@@ -25,5 +25,5 @@ pub use pool_printer::{LONGEST_TEXT, print_formula, write_formula};
 pub use print_fault::PrintFault;
 pub use printer::print_form;
 pub use reader::read_formula;
-pub use text::{NESTING_LIMIT, TextReader, read_text};
+pub use text::{TextReader, read_text};
 pub use text_fault::TextFault;

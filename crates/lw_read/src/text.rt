@@ -2,14 +2,14 @@ ghost use Rattle.std.specs.Prelude.{◌≡◌, ◌≢◌, ℕ, ◌≤◌, List, 
 ghost use Rattle.lw_read.specs.Tokens.{tokens_of};
 ghost use Rattle.lw_read.specs.Places.{nesting_limit};
 ghost use Rattle.lw_read.specs.Language.{Language, ReadsIn, IsFaultIn};
-ghost use Rattle.lw_read.specs.Machine.{Machine, IsReaderOf, Takes, Refuses};
+ghost use Rattle.lw_read.specs.Machine.{Machine, IsReaderOf, IsTaken, Refuses};
 
 use crate::lexer::{Token, tokens};
 use crate::text_fault::TextFault;
 use std::alloc::Global;
 
 /// How many constructs may be unfinished at once.
-pub const NESTING_LIMIT: usize = 400;
+const NESTING_LIMIT: usize = 400;
 
 /// How a text of a language is read token by token, with a machine that goes astray exactly where no text goes on.
 pub trait TextReader: Drop {
@@ -41,7 +41,7 @@ pub trait TextReader: Drop {
         ensures ok { IfOk result (λ next.
             let t = language.lexeme_of text.now token in
             let s = machine.step t (state self) in
-            (state next ≡ s) × Takes language machine t s) }
+            (state next ≡ s) × IsTaken language machine t s) }
         ensures fault { IfErr result (λ fault.
             let t = language.lexeme_of text.now token in
             Refuses language machine t (machine.step t (state self)) token fault) };
@@ -64,7 +64,7 @@ fn taken<R: TextReader>(alloc: Global, text: &[u8], token: Token, reader: R) -> 
     ensures ok { IfOk result (λ next.
         let t = R.language.lexeme_of text.now token in
         let s = R.machine.step t (R.state reader) in
-        (R.state next ≡ s) × Takes R.language R.machine t s × (R.machine.height s ≤ nesting_limit)) }
+        (R.state next ≡ s) × IsTaken R.language R.machine t s × (R.machine.height s ≤ nesting_limit)) }
     ensures fault { IfErr result (λ fault.
         let t = R.language.lexeme_of text.now token in
         Refuses R.language R.machine t (R.machine.step t (R.state reader)) token fault) }

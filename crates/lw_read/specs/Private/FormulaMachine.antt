@@ -61,9 +61,9 @@ begin Open fs = Need (Bracket ∷ fs)
 begin _ fs = Astray
 
 -- how tightly a token binds that stands behind an operand
-abbrev pub tightness : Lexeme → ℕ
-tightness (Between sign) = rank sign
-tightness _ = 0
+abbrev pub lexeme_rank : Lexeme → ℕ
+lexeme_rank (Between sign) = rank sign
+lexeme_rank _ = 0
 
 -- what a token makes of the operand before it, once the constructs that bind tighter are ended
 abbrev pub follow : Lexeme → Formula → List Frame → State
@@ -74,7 +74,7 @@ follow _ a fs = Astray
 
 -- where an operand is there
 abbrev pub go_on : Lexeme → Formula → List Frame → State
-go_on t a fs = reduce formula_constructs (follow t) (tightness t) a fs
+go_on t a fs = reduce formula_constructs (follow t) (lexeme_rank t) a fs
 
 -- one token
 abbrev pub step : Lexeme → State → State

@@ -5,7 +5,7 @@ use Rattle.lw_read.specs.declared.lexer.TokenKind.TheVariants.{Word}
 use Rattle.lw_read.specs.Tokens.{tokens_of}
 use Rattle.lw_read.specs.Language.{IsFaultIn}
 use Rattle.lw_read.specs.Places.{nesting_limit}
-use Rattle.lw_read.specs.Machine.{Takes, Refuses}
+use Rattle.lw_read.specs.Machine.{IsTaken, Refuses}
 use Rattle.lw_read.proofs.TokenByToken.{Reached, Reached-none, Reached-more, tells, whole, ends-over, token-fits}
 use Rattle.lw_read.proofs.text.read_tokens.Goals as goal
 
@@ -41,7 +41,7 @@ loop-token-preserved g c =
     let i = c.loop-token.token-index in
     let s = g.R.TextReader.state c.loop-token.reader in
     let new = g.R.TextReader.state c.in_ok-reader.reader in
-    let P : List Token → Type 0 = λ ts. let t = L.lexeme_of text (get_or ts i none) in (new ≡ M.step t s) × Takes L M t (M.step t s) × (M.height (M.step t s) ≤ nesting_limit) in
+    let P : List Token → Type 0 = λ ts. let t = L.lexeme_of text (get_or ts i none) in (new ≡ M.step t s) × IsTaken L M t (M.step t s) × (M.height (M.step t s) ≤ nesting_limit) in
     let ok = subst P c.requires.tokens c.in_ok-reader.ensures.ok in
     let h = subst (λ (ts : List Token). i < length ts) c.requires.tokens c.loop-token-test.true in
     subst (Reached L M text (i + 1)) (sym ok.0) (Reached-more L M c.requires.reads text i s none h c.loop-token.invariant ok.1 ok.2)
