@@ -3,6 +3,7 @@ use Rattle.std.proofs.Common.{◌≡◌, ◌↔◌, ℕ, ◌+◌, min, Bool, Lis
 use Rattle.std.specs.List.{Contains}
 use Rattle.std.proofs.Math.Bool.{or-false}
 use Rattle.std.proofs.lemmas.Option.{none-some}
+use Rattle.std.below.core.specs.declared.int.usize.TheConstants as usize
 use Rattle.lw_formula.specs.declared.logic.Logic.{Logic}
 use Rattle.lw_formula.specs.declared.sign.Sign.TheVariants.{F}
 use Rattle.lw_formula.specs.Formula.{Formula, IsSubformula, subformulas}
@@ -67,7 +68,7 @@ went_through (Some b) m next e = absurd (cc)
 
 pub was_broken : (b : Option (ℕ × Why)) (m step : ℕ) (why : Why) → Broken step why ≡ outcome_of b m → Rejected step why ≡ verdict_of b
 was_broken None m step why e = absurd (cc)
-was_broken (Some b) m step why e = let k : (step ≡ min b.0 18446744073709551615) = cc in let w : why ≡ b.1 = cc in λ i. Rejected (k i) (w i)
+was_broken (Some b) m step why e = let k : (step ≡ min b.0 usize.MAX) = cc in let w : why ≡ b.1 = cc in λ i. Rejected (k i) (w i)
 
 -- a proof is accepted exactly where it proves the goal
 pub accepted_exactly : (L : Logic) (goal : Formula) (P : Tree Signed) (v : Verdict) → IsVerdict L goal P v → IsAccepted v ↔ Proves L P goal

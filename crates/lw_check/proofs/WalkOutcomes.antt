@@ -1,5 +1,6 @@
 -- How the outcome of a walk comes from those of its parts.
 use Rattle.std.proofs.Common.{◌≡◌, ℕ, ◌+◌, suc, min, Bool, List, [], ◌∷◌, length, map, Option, None, Some, slice_get, refl, sym, ap, ◌∙◌, arith}
+use Rattle.std.below.core.specs.declared.int.usize.TheConstants as usize
 use Rattle.lw_formula.specs.declared.logic.Logic.{Logic}
 use Rattle.lw_formula.specs.declared.parts.Parts.{Parts}
 use Rattle.lw_formula.specs.Formula.{Formula}
@@ -65,7 +66,7 @@ module _ (L : Logic) (now : List Formula) (marks : List Bool) (xs : List SignedI
   pub tells_kept : (r : Rule) (x : SignedId) → r ≡ rule_of t → x ≡ principal_of t → (later : List Formula) (p : Parts SignedId) (step next : ℕ) (outcome : Walked) → Grows now later →
       TellsReason L now marks xs t None → ArePartsBelow (length now) p →
       Leaves r (signed_at now x) (parts_at now p) →
-      ((n : ℕ) → step ≡ min n 18446744073709551615 → next ≡ min (suc n) 18446744073709551615) →
+      ((n : ℕ) → step ≡ min n usize.MAX → next ≡ min (suc n) usize.MAX) →
       TellsAll L later marks (λ ts. left_by L (signed_at ts (principal_of t)) (parts_at ts p) (set_of ts xs)) t next outcome →
       Tells L later marks (λ ts. set_of ts xs) t step outcome
   tells_kept r x er ex later p step next outcome grown told below sets count all cuts ts n g k e =
@@ -106,7 +107,7 @@ or_else_none (Some b) = refl
 pub tells_none : (L : Logic) (now : List Formula) (marks : List Bool) (t : Tree SignedId) (step : ℕ) → length (subs_of t) ≡ 0 → TellsAll L now marks (λ ts. []) t step (Through step)
 tells_none L now marks t step count cuts ts n g k e =
     let m : n ≡ n + lines_all (forest (subs_of t)) = (let h = ap (λ (us : List (Tree SignedId)). lines_all (forest us)) (no_member (subs_of t) count) in omega (arith, h)) in
-    (λ i. Through (e i)) ∙ ap (λ (j : ℕ). Through (min j 18446744073709551615)) m
+    (λ i. Through (e i)) ∙ ap (λ (j : ℕ). Through (min j usize.MAX)) m
 
 -- one set is left
 pub tells_one : (L : Logic) (now : List Formula) (marks : List Bool) (X : List Formula → SignedSet) (t u : Tree SignedId) (step : ℕ) (outcome : Walked) →
@@ -119,7 +120,7 @@ tells_one L now marks X t u step outcome count sub told cuts ts n g k e =
     same_end : n + lines u ≡ n + (lines u + 0)
     same_end = omega arith
 
-went_through : (b : Option (ℕ × Why)) (m next : ℕ) → Through next ≡ outcome_of b m → (b ≡ None) × (next ≡ min m 18446744073709551615)
+went_through : (b : Option (ℕ × Why)) (m next : ℕ) → Through next ≡ outcome_of b m → (b ≡ None) × (next ≡ min m usize.MAX)
 went_through None m next e = (refl, cc)
 went_through (Some b) m next e = absurd (cc)
 
@@ -144,7 +145,7 @@ module _ (L : Logic) (marks : List Bool) (X Y : List Formula → SignedSet) (t u
       ∙ (λ i. outcome_of (join i) (same_end i))
       ∙ ap (λ (us : List (Tree SignedId)). outcome_of (breaks_from trees cuts L (X ts ∷ Y ts ∷ []) n (forest (map (λ w. proof_at ts w) us))) (n + lines_all (forest us))) (sym (two_members (subs_of t) u v count first second))
     where
-      through : (break_from trees cuts L (X ts) n (proof_at ts u) ≡ None) × (next ≡ min (n + lines u) 18446744073709551615)
+      through : (break_from trees cuts L (X ts) n (proof_at ts u) ≡ None) × (next ≡ min (n + lines u) usize.MAX)
       through =
           went_through (break_from trees cuts L (X ts) n (proof_at ts u)) (n + lines u) next
           (one cuts ts n (Grows-trans mid now ts grown g) (each_sub (λ (x : SignedId). is_marked marks x.form.0 ≡ cuts (signed_at ts x)) t 0 u first k) e)

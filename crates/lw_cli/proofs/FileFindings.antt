@@ -2,6 +2,7 @@
 use Rattle.std.proofs.Common.{◌≡◌, ℕ, ◌+◌, ◌<◌, ◌≤◌, List, length, take, min, Option, Some, None, Result, Ok, Err, IfOk, refl, sym, ◌∙◌, subst, ap, arith}
 use Rattle.std.proofs.lemmas.List.{take_all, length-take}
 use Rattle.std.specs.declared.alloc.AllocError.{AllocError}
+use Rattle.std.below.core.specs.declared.int.usize.TheConstants as usize
 use Rattle.lw_io.specs.Files.{Files, IsHeldPart}
 use Rattle.lw_formula.specs.declared.logic.Logic.{Logic}
 use Rattle.lw_formula.specs.Formula.{Formula}
@@ -83,7 +84,7 @@ rejected logic a t step why is = by (first_break logic a t) refl is
   where
     by : (b : Option (ℕ × Why)) → first_break logic a t ≡ b → verdict.Rejected step why ≡ verdict_of b → IsJudged logic a (Steps t) (RejectedStep step)
     by None same e = cc
-    by (Some b) same e = let told : step ≡ min b.0 18446744073709551615 = cc in (b.0, b.1, same, told)
+    by (Some b) same e = let told : step ≡ min b.0 usize.MAX = cc in (b.0, b.1, same, told)
 
 pub refuted : (logic : Logic) (a : Formula) (m : FiniteModel) (w : ℕ) → Class logic m → w < m.worlds → (IsTrueAt m w a → ⊥) → Refutes logic m w a
 refuted logic a m w of within fails = record { in_class = of; within = within; fails = fails }

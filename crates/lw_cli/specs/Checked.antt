@@ -1,5 +1,6 @@
 -- The meaning of `check`: which finding a file's bytes allow.
 use Rattle.std.specs.Prelude.{◌≡◌, ℕ, ◌<◌, ◌≤◌, List, length, min, Option, Some}
+use Rattle.std.below.core.specs.declared.int.usize.TheConstants as usize
 use Rattle.lw_io.specs.Files.{Files, IsHeld}
 use Rattle.lw_formula.specs.declared.logic.Logic.{Logic}
 use Rattle.lw_formula.specs.Formula.{Formula}
@@ -27,7 +28,7 @@ pub record IsModelOf (rows : List Row) (m : FiniteModel) : Type 0 where
 -- else rejected at the first step that breaks its rule; a model is accepted where it refutes it at the world
 abbrev pub IsJudged : Logic → Formula → Content → Finding → Type 0
 IsJudged logic a (Steps t) Accepted = Proves logic t a
-IsJudged logic a (Steps t) (RejectedStep step) = (n : ℕ) × (why : Why) × (first_break logic a t ≡ Some (n, why)) × (step ≡ min n 18446744073709551615)
+IsJudged logic a (Steps t) (RejectedStep step) = (n : ℕ) × (why : Why) × (first_break logic a t ≡ Some (n, why)) × (step ≡ min n usize.MAX)
 IsJudged logic a (Table w rows) Accepted = (m : FiniteModel) × IsModelOf rows m × Refutes logic m w a
 IsJudged logic a (Table w rows) RejectedModel = (m : FiniteModel) × IsModelOf rows m × (¬ Refutes logic m w a)
 IsJudged logic a _ _ = ⊥

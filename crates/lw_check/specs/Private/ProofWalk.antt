@@ -1,5 +1,6 @@
 -- What the parts of the walk over a proof say to each other. What is said of formulas holds in each later pool too.
 use Rattle.std.specs.Prelude.{◌≡◌, ℕ, ◌+◌, Bool, min, List, length, map, Option, Some, None}
+use Rattle.std.below.core.specs.declared.int.usize.TheConstants as usize
 use Rattle.lw_formula.specs.declared.logic.Logic.{Logic}
 use Rattle.lw_formula.specs.Formula.{Formula}
 use Rattle.lw_formula.specs.Signed.{Signed, SignedSet}
@@ -26,13 +27,13 @@ TellsReason L now marks xs P told =
 
 -- the outcome that tells the first break, where the next step has the number `next`: a number over the greatest `usize` is told as that
 abbrev pub outcome_of : Option (ℕ × Why) → ℕ → Walked
-outcome_of None next = Through (min next 18446744073709551615)
-outcome_of (Some b) next = Broken (min b.0 18446744073709551615) b.1
+outcome_of None next = Through (min next usize.MAX)
+outcome_of (Some b) next = Broken (min b.0 usize.MAX) b.1
 
 -- the outcome is that of the proof, whose first step is counted as `step`, where it is to close the set
 abbrev pub Tells : Logic → List Formula → List Bool → (List Formula → SignedSet) → Tree SignedId → ℕ → Walked → Type 0
 Tells L now marks X P step outcome =
-    (cuts : SignedSet) (ts : List Formula) (n : ℕ) → Grows now ts → AreCuts cuts ts marks P → step ≡ min n 18446744073709551615 →
+    (cuts : SignedSet) (ts : List Formula) (n : ℕ) → Grows now ts → AreCuts cuts ts marks P → step ≡ min n usize.MAX →
     outcome ≡ outcome_of (break_from trees cuts L (X ts) n (proof_at ts P)) (n + lines P)
 
 -- the subproofs of the first step, with the signed formulas of their ids
@@ -42,5 +43,5 @@ subs_at ts P = forest (map (λ t. proof_at ts t) (subs_of P))
 -- the outcome is that of the proof's subproofs, whose first step is counted as `step`, where they are to close the sets in turn
 abbrev pub TellsAll : Logic → List Formula → List Bool → (List Formula → List SignedSet) → Tree SignedId → ℕ → Walked → Type 0
 TellsAll L now marks Xs P step outcome =
-    (cuts : SignedSet) (ts : List Formula) (n : ℕ) → Grows now ts → AreCuts cuts ts marks P → step ≡ min n 18446744073709551615 →
+    (cuts : SignedSet) (ts : List Formula) (n : ℕ) → Grows now ts → AreCuts cuts ts marks P → step ≡ min n usize.MAX →
     outcome ≡ outcome_of (breaks_from trees cuts L (Xs ts) n (subs_at ts P)) (n + lines_all (forest (subs_of P)))
