@@ -11,8 +11,8 @@ use Rattle.lw_closure.specs.Table.{Table, item_at, item_count}
 use Rattle.lw_counter.specs.Fragment.{cut_to}
 use Rattle.lw_sat.specs.declared.board.Board.{Board}
 use Rattle.lw_sat.specs.Closing.{Closes, Rests}
-use Rattle.lw_sat.specs.SeedPath.{most_steps, room_below, spot_of, Becomes, IsBoard}
-use Rattle.lw_sat.specs.Saturated.{fold_steps, room, FoldsAll, IsClosing}
+use Rattle.lw_sat.specs.SeedPath.{most_steps, room_below, spot_of, Becomes}
+use Rattle.lw_sat.specs.Saturated.{fold_steps, room, IsClosing, Unwinds}
 use Rattle.lw_sat.specs.Sets.{top, weights}
 use Rattle.lw_sat.proofs.BoardSpots.{kept_of, lower_of, set_of}
 use Rattle.lw_sat.proofs.UnwoundFrames.{seed_closed}
@@ -47,7 +47,6 @@ module _ (t : Table) (aim : Aim) (a b : Place) (l : Level) (u : Board) (p : Tree
   module _ (m : Board) (q : Tree SignedId) (becomes : Becomes l.board m (record (spot_of l.board) { set = used_step t (label l) l.item w.inner (top u.labels) })) (e : q ≡ node Rule.Step (item_at t l.item) (more p none)) where
     pub step_closes : IsClosing t a.seed (aim.rank a.path a.left) l.frames.items m q
     step_closes = record {
-      board = becomes.board;
       wide = (let wide = w.serves.at.wide in let bits = becomes.bits in omega arith);
       seed = w.serves.at.seed;
       spot = spot_of l.board;
@@ -59,20 +58,20 @@ module _ (t : Table) (aim : Aim) (a b : Place) (l : Level) (u : Board) (p : Tree
       };
     }
 
-    pub reopens_or_closes : {E : Type 0} (n : Level) (r : Result (Option (Tree SignedId)) E) → n.parent ≡ l.parent → IfOk r (FoldsAll t a.seed (aim.rank a.path a.left) n.frames.items n.board) → OnOk r (IsBoard n.board) →
+    pub reopens_or_closes : {E : Type 0} (n : Level) (r : Result (Option (Tree SignedId)) E) → n.parent ≡ l.parent → IfOk r (Unwinds t l.frames.items m q n.frames.items n.board) →
         OnOk r (n.board.bits ≡ m.bits) → IfOk r (λ found. IfNone found (room n.board < room_below m.bits (spot_of m))) → IfOk r (λ found. fold_steps n.frames.items found ≤ max (most_steps l.frames.items) (steps q)) →
         steps p ≤ b.left → IfOk r (ReopensOrCloses t aim a l n)
-    reopens_or_closes n (Err x) parent folds board bits falls few left = tt
-    reopens_or_closes n (Ok None) parent folds board bits falls few left =
+    reopens_or_closes n (Err x) parent folds bits falls few left = tt
+    reopens_or_closes n (Ok None) parent folds bits falls few left =
         let held = w.serves.steps in
         let own = steps_left left q e in
         let same : room_below m.bits (spot_of m) ≡ room_below l.board.bits (spot_of l.board) = (λ i. weights (becomes.bits i) (lower_of l.board m _ becomes i)) in
-        (folds, omega (arith, few, held, own), parent, omega (arith, falls, same))
-    reopens_or_closes n (Ok (Some r)) parent folds board bits falls few left =
+        (folds a.seed (aim.rank a.path a.left) step_closes, omega (arith, few, held, own), parent, omega (arith, falls, same))
+    reopens_or_closes n (Ok (Some r)) parent folds bits falls few left =
         let held = w.serves.steps in
         let own = steps_left left q e in
         let wide = w.serves.at.wide in
-        (board, omega (arith, bits, becomes.bits, wide), folds, omega (arith, few, held, own))
+        (omega (arith, bits, becomes.bits, wide), folds a.seed (aim.rank a.path a.left) step_closes, omega (arith, few, held, own))
 
 -- what one level that falls comes to: the level below it is under work, or its seed is closed too
 abbrev pub FallGoesOn : Table → Aim → Search → Search → Option (Tree SignedId) → Type 0
@@ -122,7 +121,7 @@ module _ (t : Table) (aim : Aim) (old s : Search) (p : Tree SignedId) (so_far : 
         omega (arith, held_is, new, less, so_far.1)
 
     fallen : (q : Tree SignedId) → ReopensOrCloses t aim dropped.0 l n.level (Some q) → IsFallen t aim n q
-    fallen q closes = record { stands = stands; board = closes.0; wide = closes.1; closed = closes.2; steps = closes.3 }
+    fallen q closes = record { stands = stands; wide = closes.0; closed = closes.1; steps = closes.2 }
 
     onward : (found : Option (Tree SignedId)) → ReopensOrCloses t aim dropped.0 l n.level found → FallGoesOn t aim old n found
     onward None opens = (opened opens, opened_room opens)

@@ -46,7 +46,6 @@ begun t rank bound item s guides below ranks begins =
         fragment = begins.fragment;
       };
       at = subst (λ fs. IsAt t aim.seed (rank [] bound) fs s.level.board) (sym begins.frames) (record {
-        board = begins.board;
         wide = begins.wide;
         seed = own;
         leads = sym begins.spot;

@@ -13,8 +13,8 @@ use Rattle.lw_closure.specs.Mapping.{OfParts}
 use Rattle.lw_closure.specs.Items.{any_below, is_nu_to, items}
 use Rattle.lw_closure.proofs.ItemNumbers.{any_below_cases, any_below-found}
 use Rattle.lw_sat.specs.Sets.{nothing, IsOfItems}
-use Rattle.lw_search.specs.Step.{keeps_inside, keeps_nu, kept_of}
-use Rattle.lw_search.specs.Private.StepUse.{meets}
+use Rattle.lw_search.specs.Step.{keeps_inside, keeps_nu}
+use Rattle.lw_search.specs.Private.StepUse.{kept_of, meets}
 
 nu_with : (p : Parts ℕ) → is_nu p ≡ true → (c : ℕ) × (p ≡ Nu c)
 nu_with (Nu c) e = (c, refl)

@@ -17,7 +17,8 @@ use Rattle.lw_sat.proofs.SaturationCourse.{seed_more}
 use Rattle.lw_sat.proofs.SetWeights.{weight_more}
 use Rattle.lw_sat.proofs.LastRowChanges.{and_pair, below_same}
 use Rattle.lw_search.specs.Private.SearchLevels.{most_room}
-use Rattle.lw_search.specs.Step.{kept_of, seed}
+use Rattle.lw_search.specs.Step.{seed}
+use Rattle.lw_search.specs.Private.StepUse.{kept_of}
 use Rattle.lw_search.proofs.KeptItems.{each_kept, kept_some}
 
 -- what a step keeps of the items below k of a label

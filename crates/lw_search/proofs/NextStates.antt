@@ -15,7 +15,7 @@ use Rattle.lw_closure.specs.Unclosed.{IsUnclosedLabel}
 use Rattle.lw_counter.specs.Fragment.{Fragment, world_at, items_of, cut_to, with_world, with_link}
 use Rattle.lw_counter.specs.Open.{HasWitness}
 use Rattle.lw_counter.proofs.FragmentChanges.{cut_link, cut_push, cut_self, cut_twice, length_with}
-use Rattle.lw_sat.specs.SeedPath.{Spot, most_steps, root, room_below, spot_of, IsBoard, IsWide}
+use Rattle.lw_sat.specs.SeedPath.{Spot, most_steps, root, room_below, spot_of, IsWide}
 use Rattle.lw_sat.specs.Saturated.{room, IsAt}
 use Rattle.lw_sat.specs.Sets.{among, top, weight, IsOfItems}
 use Rattle.lw_sat.proofs.SetWeights.{weight_some}
@@ -191,9 +191,9 @@ module _ (t : Table) (aim : Aim) (s : Search) (h : IsServing t aim s) (c : ℕ) 
   abbrev to : Place
   to = above t from s.level c s.fragment
 
-  pub descended : (n : Search) → n.below.items ≡ s.below.items ++ s.level ∷ [] → n.level.frames.items ≡ [] → n.level.parent ≡ Some s.level.world → n.fragment ≡ s.fragment → IsBoard n.level.board → IsWide t n.level.board →
+  pub descended : (n : Search) → n.below.items ≡ s.below.items ++ s.level ∷ [] → n.level.frames.items ≡ [] → n.level.parent ≡ Some s.level.world → n.fragment ≡ s.fragment → IsWide t n.level.board →
       spot_of n.level.board ≡ root (seed t (label s.level) s.level.item c) → room n.level.board ≤ most_room (item_count t) → StepFits t aim s n ByStep
-  descended n below frames parent fragment board wide spot few = (under_work, less) where
+  descended n below frames parent fragment wide spot few = (under_work, less) where
     under_work : IsUnderWork t aim n
     under_work = record {
       stands = record {
@@ -210,7 +210,6 @@ module _ (t : Table) (aim : Aim) (s : Search) (h : IsServing t aim s) (c : ℕ) 
         fragment = fragment;
       };
       at = subst (λ fs. IsAt t to.seed (aim.rank to.path to.left) fs n.level.board) (sym frames) (record {
-        board = board;
         wide = wide;
         seed = seed_items t h.guides.table h.guides.uncut (label s.level) s.level.item c asks.items asked.there asked.parts;
         leads = sym spot;

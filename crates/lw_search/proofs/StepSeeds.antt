@@ -18,8 +18,8 @@ use Rattle.lw_closure.proofs.ItemNumbers.{any_below-found, flip_below}
 use Rattle.lw_sat.specs.Closing.{Rests}
 use Rattle.lw_sat.specs.Sets.{among, without, AreBelow, IsOfItems}
 use Rattle.lw_sat.proofs.UsedItems.{below_each, closed_more}
-use Rattle.lw_search.specs.Step.{kept_of, seed}
-use Rattle.lw_search.specs.Private.StepUse.{meets, used_step}
+use Rattle.lw_search.specs.Step.{seed}
+use Rattle.lw_search.specs.Private.StepUse.{kept_of, meets, used_step}
 use Rattle.lw_search.proofs.KeptItems.{each_kept, kept_item, kept_some}
 
 -- a Step uses its π, and each item of which it keeps something that the proof above it uses

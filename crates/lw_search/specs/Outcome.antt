@@ -1,6 +1,8 @@
 -- What the loop of a search comes to.
 use Rattle.std.specs.Prelude.{ℕ, ◌≤◌, List}
-use Rattle.lw_formula.specs.Formula.{Formula}
+use Rattle.lw_formula.specs.Formula.{Formula, depth, modal_count}
+use Rattle.lw_pool.specs.Region.{tree_at}
+use Rattle.lw_model.specs.Bounds.{step_bound}
 use Rattle.lw_proof.specs.System.{Set}
 use Rattle.lw_proof.specs.Lean.{steps}
 use Rattle.lw_closure.specs.Table.{Table}
@@ -18,3 +20,8 @@ IsOutcome t n X (Open f) = IsExplored t n X f
 -- the outcome for the goal of the closure, whose formulas a pool with the formulas ts has kept
 abbrev pub OutcomeFits : List Formula → Table → ℕ → Outcome → Type 0
 OutcomeFits ts t n outcome = (X : Set ℕ) × IsGoal ts t X × IsOutcome t n X outcome
+
+-- the same, in no more steps than the bound of the goal
+abbrev pub BoundedOutcomeFits : List Formula → Table → Outcome → Type 0
+BoundedOutcomeFits ts t outcome =
+    (n : ℕ) × (n ≤ step_bound t.logic (modal_count (tree_at ts t.goal)) (depth (tree_at ts t.goal))) × OutcomeFits ts t n outcome

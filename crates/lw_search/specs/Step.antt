@@ -1,8 +1,8 @@
 -- What a step keeps of a label for the world that it leads to.
-use Rattle.std.specs.Prelude.{ℕ, Bool, true, false, ◌&&◌, ◌||◌, not, zero, suc, ◌+◌, if◌then◌else◌, nat_eq}
+use Rattle.std.specs.Prelude.{ℕ, Bool, true, false, ◌&&◌, ◌||◌, not, zero, suc, ◌+◌, if◌then◌else◌}
 use Rattle.std.specs.Option.{is_some}
 use Rattle.lw_formula.specs.declared.logic.Logic.{Logic}
-use Rattle.lw_formula.specs.declared.logic.Logic.TheVariants.{K, KT, GL}
+use Rattle.lw_formula.specs.declared.logic.Logic.TheVariants.{K, KT, S4, S5, GL, Grz}
 use Rattle.lw_proof.specs.System.{Set}
 use Rattle.lw_proof.specs.Derivation.{added, is_pi, kept, plus}
 use Rattle.lw_closure.specs.Table.{Table, entry_at, item_count}
@@ -13,18 +13,19 @@ use Rattle.lw_closure.specs.Keeps.{has_guards}
 abbrev pub keeps_nu : Logic → Bool
 keeps_nu K = false
 keeps_nu KT = false
-keeps_nu _ = true
+keeps_nu S4 = true
+keeps_nu S5 = true
+keeps_nu GL = true
+keeps_nu Grz = true
 
 -- the logics in which the components of the ν go along
 abbrev pub keeps_inside : Logic → Bool
 keeps_inside K = true
 keeps_inside KT = true
+keeps_inside S4 = false
+keeps_inside S5 = false
 keeps_inside GL = true
-keeps_inside _ = false
-
--- what a step keeps of the item, where a label has it: what it keeps of the set of the item alone
-abbrev pub kept_of : Table → ℕ → Set ℕ
-kept_of t item = kept (items t) t.logic (nat_eq item)
+keeps_inside Grz = false
 
 -- with what the label of a new world begins, where the step on the π `item` with the component c leads to it from the label X
 abbrev pub seed : Table → Set ℕ → ℕ → ℕ → Set ℕ

@@ -1,10 +1,8 @@
-ghost use Rattle.std.specs.Prelude.{ℕ, ◌≤◌, IfOk};
-ghost use Rattle.lw_formula.specs.Formula.{depth, modal_count};
+ghost use Rattle.std.specs.Prelude.{IfOk};
 ghost use Rattle.lw_pool.specs.Region.{tree_at};
-ghost use Rattle.lw_model.specs.Bounds.{step_bound};
 ghost use Rattle.lw_closure.specs.Keeps.{Keeps};
 ghost use Rattle.lw_counter.specs.Answers.{IsAnswerTo};
-ghost use Rattle.lw_search.specs.Outcome.{OutcomeFits};
+ghost use Rattle.lw_search.specs.Outcome.{BoundedOutcomeFits};
 
 use crate::outcome::Outcome;
 use lw_closure::Closure;
@@ -16,7 +14,7 @@ use std::alloc::AllocError;
 /// It fails for want of memory alone.
 pub fn answer(pool: &Pool, closure: &Closure, outcome: Outcome) -> Result<Answer, AllocError>
     requires keeps { Keeps pool.now closure.now }
-    requires fits { (n : ℕ) × (n ≤ step_bound closure.now.logic (modal_count (tree_at pool.now closure.now.goal)) (depth (tree_at pool.now closure.now.goal))) × OutcomeFits pool.now closure.now n outcome }
+    requires fits { BoundedOutcomeFits pool.now closure.now outcome }
     ensures { IfOk result (IsAnswerTo closure.now.logic pool.now (tree_at pool.now closure.now.goal)) }
 {
     match outcome {

@@ -1,15 +1,12 @@
 // Which π of a label ask for a step.
-ghost use Rattle.std.specs.Prelude.{◌≡◌, ◌<◌, ◌↔◌, ◌||◌, not, IsTrue, MatchOption, length};
+ghost use Rattle.std.specs.Prelude.{◌≡◌, ◌<◌, ◌↔◌, ◌||◌, not, IsTrue, MatchOption};
 ghost use Rattle.lw_proof.specs.Derivation.{kept};
 ghost use Rattle.lw_proof.specs.System.{IsWithin};
 ghost use Rattle.lw_closure.specs.Table.{item_count};
 ghost use Rattle.lw_closure.specs.Items as of_items;
-ghost use Rattle.lw_counter.specs.Fragment.{items_of};
-ghost use Rattle.lw_sat.specs.SeedPath.{IsBoard, IsWide};
 ghost use Rattle.lw_sat.specs.Sets.{among, top, IsOfItems};
-ghost use Rattle.lw_search.specs.Ranked.{IsServedBy};
-ghost use Rattle.lw_search.specs.Step.{kept_of};
-ghost use Rattle.lw_search.specs.Private.SearchTurns.{IsAsked, IsFar, ServesItself};
+ghost use Rattle.lw_search.specs.Private.SearchTurns.{IsAsked, IsFar, ServesAt, ServesItself};
+ghost use Rattle.lw_search.specs.Private.StepUse.{kept_of};
 
 use crate::rule::StepRule;
 use crate::tableau::Tableau;
@@ -27,10 +24,8 @@ fn has_if(items: &[usize], wanted: bool, item: usize) -> bool
 impl<R: StepRule> Tableau<'_, R> {
     /// The component of the item, where it is a π of the label and the label's world doesn't serve it itself.
     pub fn asked(&self, label: &Board, item: usize) -> Option<usize>
-        requires board { IsBoard label.now }
-        requires wide { IsWide self.now label.now }
-        requires item { item < item_count self.now }
-        ensures { MatchOption result (ServesItself self.now (top label.now.labels) item) (λ inner. IsAsked self.now (top label.now.labels) item inner) }
+        requires { item < item_count self.now }
+        ensures { MatchOption result (ServesItself self.now (top label.now.labels) item) (IsAsked self.now (top label.now.labels) item) }
     {
         match self.closure.parts(item) {
             Parts::Pi(inner)
@@ -57,9 +52,7 @@ impl<R: StepRule> Tableau<'_, R> {
 
     // Whether the items have all that a step keeps of the label.
     fn has_kept(&self, label: &Board, items: &[usize]) -> bool
-        requires board { IsBoard label.now }
-        requires wide { IsWide self.now label.now }
-        requires own { IsOfItems self.now (top label.now.labels) }
+        requires { IsOfItems self.now (top label.now.labels) }
         ensures { IsTrue result ↔ IsWithin (kept (of_items.items self.now) self.now.logic (top label.now.labels)) (among items.now) }
     {
         for item in 0..self.item_count() {
@@ -72,10 +65,9 @@ impl<R: StepRule> Tableau<'_, R> {
 
     /// A world to which a link serves a π of the label with the component `inner`, in the logics with links.
     pub fn target(&self, label: &Board, fragment: &Fragment, inner: usize) -> Option<usize>
-        requires board { IsBoard label.now }
-        requires wide { IsWide self.now label.now }
-        requires own { IsOfItems self.now (top label.now.labels) }
-        ensures { MatchOption result (IsFar self.now (top label.now.labels) fragment.now inner) (λ world. (world < length fragment.now.worlds) × IsServedBy self.now (top label.now.labels) (items_of fragment.now world) inner) }
+        requires { IsOfItems self.now (top label.now.labels) }
+        ensures { MatchOption result (IsFar self.now (top label.now.labels) fragment.now inner)
+            (ServesAt self.now (top label.now.labels) fragment.now inner) }
     {
         if !self.rule.has_links() {
             return None;

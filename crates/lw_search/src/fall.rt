@@ -1,7 +1,7 @@
 // From a closed seed down to the last label that has another branch.
 ghost use Rattle.std.specs.Prelude.{◌≤◌, IfOk};
 ghost use Rattle.lw_proof.specs.Lean.{steps};
-ghost use Rattle.lw_sat.specs.SeedPath.{IsBoard, IsWide};
+ghost use Rattle.lw_sat.specs.SeedPath.{IsWide};
 ghost use Rattle.lw_search.specs.Private.SearchLevels.{Aim, IsFallen, Place};
 ghost use Rattle.lw_search.specs.Private.SearchTurns.{ClosesStep, FallFits, ReopensOrCloses};
 
@@ -24,9 +24,9 @@ impl<R: StepRule> Tableau<'_, R> {
         proof: Proof,
     ) -> Result<Option<Proof>, AllocError>
         requires closes { (aim : Aim) × (a : Place) × (b : Place) × ClosesStep self.now aim a level.old b above proof }
-        requires board { IsBoard above }
         requires wide { IsWide self.now above }
-        ensures { (aim : Aim) (a b : Place) → ClosesStep self.now aim a level.old b above proof → steps proof ≤ b.left → IfOk result (ReopensOrCloses self.now aim a level.old level.new) }
+        ensures { (aim : Aim) (a b : Place) → ClosesStep self.now aim a level.old b above proof → steps proof ≤ b.left
+            → IfOk result (ReopensOrCloses self.now aim a level.old level.new) }
     {
         let item = level.item;
         self.use_step(&mut level.board, &mut above, item);

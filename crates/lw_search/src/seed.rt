@@ -1,11 +1,12 @@
 // The seeds of steps.
 ghost use Rattle.std.specs.Prelude.{◌≡◌, ◌<◌, ◌≤◌, ◌&&◌, ◌||◌, nat_eq, IfOk};
 ghost use Rattle.lw_closure.specs.Table.{item_count};
-ghost use Rattle.lw_sat.specs.SeedPath.{root, spot_of, Becomes, IsBoard, IsWide};
+ghost use Rattle.lw_sat.specs.SeedPath.{root, spot_of, Becomes, IsWide};
 ghost use Rattle.lw_sat.specs.Saturated.{room};
 ghost use Rattle.lw_sat.specs.Sets.{either, top, IsOfItems};
 ghost use Rattle.lw_search.specs.Private.SearchLevels.{most_room};
-ghost use Rattle.lw_search.specs.Step.{kept_of, seed};
+ghost use Rattle.lw_search.specs.Private.StepUse.{kept_of};
+ghost use Rattle.lw_search.specs.Step.{seed};
 
 use crate::rule::StepRule;
 use crate::tableau::Tableau;
@@ -15,8 +16,7 @@ use std::alloc::{AllocError, Global};
 
 // Puts the item into the label, if it's wanted there.
 fn add_if(board: &mut Board, wanted: bool, item: usize)
-    requires board { IsBoard board.old }
-    requires inside { item < board.old.bits }
+    requires { item < board.old.bits }
     ensures { Becomes board.old board.new (record (spot_of board.old) { set = λ i. (wanted && nat_eq item i) || top board.old.labels i }) }
 {
     if wanted {
@@ -27,7 +27,6 @@ fn add_if(board: &mut Board, wanted: bool, item: usize)
 impl<R: StepRule> Tableau<'_, R> {
     // Puts in what a step keeps of an item of the label below.
     fn take_along(&self, board: &mut Board, item: usize)
-        requires board { IsBoard board.old }
         requires wide { IsWide self.now board.old }
         requires item { item < item_count self.now }
         ensures { Becomes board.old board.new (record (spot_of board.old) { set = either (kept_of self.now item) (top board.old.labels) }) }
@@ -46,12 +45,9 @@ impl<R: StepRule> Tableau<'_, R> {
         item: usize,
         inner: usize,
     ) -> Result<Board, AllocError>
-        requires board { IsBoard label.now }
-        requires wide { IsWide self.now label.now }
         requires items { IsOfItems self.now (top label.now.labels) }
         requires item { item < item_count self.now }
         requires inner { inner < item_count self.now }
-        ensures board { IfOk result (λ board. IsBoard board) }
         ensures wide { IfOk result (λ board. IsWide self.now board) }
         ensures spot { IfOk result (λ board. spot_of board ≡ root (seed self.now (top label.now.labels) item inner)) }
         ensures room { IfOk result (λ board. room board ≤ most_room (item_count self.now)) }

@@ -10,7 +10,7 @@ use Rattle.lw_closure.specs.Table.{Table, item_count, IsTable}
 use Rattle.lw_closure.specs.Unclosed.{IsUnclosedLabel}
 use Rattle.lw_counter.specs.Fragment.{Fragment, cut_to}
 use Rattle.lw_sat.specs.Moves.{Survives}
-use Rattle.lw_sat.specs.SeedPath.{root, room_below, spot_of, most_steps, IsBoard, IsClosedAt, IsWide}
+use Rattle.lw_sat.specs.SeedPath.{root, room_below, spot_of, most_steps, IsClosedAt, IsWide}
 use Rattle.lw_sat.specs.Saturated.{room, IsAt}
 use Rattle.lw_sat.specs.Sets.{nothing, top, weight, IsOfItems}
 use Rattle.lw_search.specs.declared.level.Level.{Level}
@@ -105,7 +105,6 @@ Nested t aim a (l ∷ ls) c = (b : Place) × Waits t aim a l b × Nested t aim b
 pub record IsBegun (t : Table) (X : Set ℕ) (s : Search) : Type 0 where
   pub below : s.below.items ≡ []
   pub frames : s.level.frames.items ≡ []
-  pub board : IsBoard s.level.board
   pub wide : IsWide t s.level.board
   pub spot : spot_of s.level.board ≡ root X
   pub parent : s.level.parent ≡ None
@@ -136,7 +135,6 @@ pub record IsServing (t : Table) (aim : Aim) (s : Search) : Type 0 where
 -- the last level's seed is closed, by the items that its board has
 pub record IsFallen (t : Table) (aim : Aim) (s : Search) (p : Tree SignedId) : Type 0 where
   pub stands : Stands t aim s.below.items s.fragment
-  pub board : IsBoard s.level.board
   pub wide : IsWide t s.level.board
   pub closed : IsClosedAt t (root stands.place.seed) s.level.board p
   pub steps : steps p ≤ stands.place.left

@@ -12,7 +12,7 @@ use Rattle.lw_counter.specs.Fragment.{Fragment, items_of}
 use Rattle.lw_counter.specs.Open.{HasWitness}
 use Rattle.lw_sat.specs.declared.board.Board.{Board}
 use Rattle.lw_sat.specs.Closing.{Closes}
-use Rattle.lw_sat.specs.SeedPath.{root, room_below, spot_of, most_steps, IsBoard, IsClosedAt, IsWide}
+use Rattle.lw_sat.specs.SeedPath.{root, room_below, spot_of, most_steps, IsClosedAt, IsWide}
 use Rattle.lw_sat.specs.Saturated.{room, IsAt}
 use Rattle.lw_search.specs.declared.level.Level.{Level}
 use Rattle.lw_search.specs.declared.level.Search.{Search}
@@ -37,6 +37,10 @@ ServesItself t X item = (c : ℕ) → IsTrue (X item) → (entry_at t item).part
 -- no link to a world of the fragment serves a π with the component c of the label
 abbrev pub IsFar : Table → Set ℕ → Fragment → ℕ → Type 0
 IsFar t X f c = (w : ℕ) → w < length f.worlds → ¬ IsServedBy t X (items_of f w) c
+
+-- a link to the world w of the fragment serves a π with the component c of the label
+abbrev pub ServesAt : Table → Set ℕ → Fragment → ℕ → ℕ → Type 0
+ServesAt t X f c w = (w < length f.worlds) × IsServedBy t X (items_of f w) c
 
 -- a link serves the π with the component c of the last level's world, or none does and nothing has changed
 abbrev pub LinkFits : Table → Aim → Search → ℕ → Search → Bool → Type 0
@@ -79,7 +83,7 @@ pub record ClosesStep (t : Table) (aim : Aim) (a : Place) (l : Level) (b : Place
 abbrev pub ReopensOrCloses : Table → Aim → Place → Level → Level → Option (Tree SignedId) → Type 0
 ReopensOrCloses t aim a old new None =
     IsAt t a.seed (aim.rank a.path a.left) new.frames.items new.board × (most_steps new.frames.items ≤ a.left) × (new.parent ≡ old.parent) × (room new.board < room_below old.board.bits (spot_of old.board))
-ReopensOrCloses t aim a old new (Some p) = IsBoard new.board × IsWide t new.board × IsClosedAt t (root a.seed) new.board p × (steps p ≤ a.left)
+ReopensOrCloses t aim a old new (Some p) = IsWide t new.board × IsClosedAt t (root a.seed) new.board p × (steps p ≤ a.left)
 
 -- what a closed seed comes to: a label under work below it, or the first seed is closed
 abbrev pub FallFits : Table → Aim → Search → Search → Option (Tree SignedId) → Type 0

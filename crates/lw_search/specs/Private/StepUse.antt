@@ -1,11 +1,17 @@
--- What a Step uses of a label.
-use Rattle.std.specs.Prelude.{ℕ, Bool, ◌&&◌, ◌||◌, nat_eq}
+-- What a step keeps of each item of a label, and what a Step uses of the label.
+use Rattle.std.specs.Prelude.{◌≡◌, ℕ, Bool, ◌&&◌, ◌||◌, nat_eq}
+use Rattle.lw_formula.specs.declared.parts.Parts.TheVariants.{Pi}
 use Rattle.lw_proof.specs.System.{Set}
-use Rattle.lw_proof.specs.Derivation.{added}
-use Rattle.lw_closure.specs.Table.{Table, item_count}
+use Rattle.lw_proof.specs.Derivation.{added, kept}
+use Rattle.lw_closure.specs.Table.{Table, entry_at, item_count}
 use Rattle.lw_closure.specs.Items.{any_below, items}
-use Rattle.lw_sat.specs.Sets.{without}
-use Rattle.lw_search.specs.Step.{kept_of}
+use Rattle.lw_sat.specs.declared.board.Board.{Board}
+use Rattle.lw_sat.specs.SeedPath.{spot_of, Becomes}
+use Rattle.lw_sat.specs.Sets.{top, without}
+
+-- what a step keeps of the item, where a label has it: what it keeps of the set of the item alone
+abbrev pub kept_of : Table → ℕ → Set ℕ
+kept_of t item = kept (items t) t.logic (nat_eq item)
 
 -- whether the sets have an item of the table in common
 abbrev pub meets : Table → Set ℕ → Set ℕ → Bool
@@ -19,3 +25,17 @@ sent t X item W i = nat_eq item i || (X i && meets t (kept_of t i) W)
 -- adds there
 abbrev pub used_step : Table → Set ℕ → ℕ → ℕ → Set ℕ → Set ℕ
 used_step t X item c U = sent t X item (without (added (items t) t.logic item c) U)
+
+-- the label has lost what the step on the π `item` adds
+abbrev pub LosesAdded : Table → ℕ → Board → Board → Type 0
+LosesAdded t item old new =
+    (c : ℕ) → (entry_at t item).parts ≡ Pi c → Becomes old new (record (spot_of old) { set = without (added (items t) t.logic item c) (top old.labels) })
+
+-- of the label is left what the step on the item sends into W
+abbrev pub LeavesSent : Table → ℕ → Set ℕ → Board → Board → Type 0
+LeavesSent t item W old new = Becomes old new (record (spot_of old) { set = sent t (top old.labels) item W })
+
+-- of the label is left what a Step on the π `item` uses, where the proof above it uses U
+abbrev pub LeavesUsed : Table → ℕ → Set ℕ → Board → Board → Type 0
+LeavesUsed t item U old new =
+    (c : ℕ) → (entry_at t item).parts ≡ Pi c → Becomes old new (record (spot_of old) { set = used_step t (top old.labels) item c U })

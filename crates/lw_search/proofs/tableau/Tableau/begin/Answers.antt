@@ -6,7 +6,6 @@ pub returns : goal.returns
 returns g c = record {
   below = c.new-2.ensures.items;
   frames = c.new-3.ensures.items;
-  board = c.add_side.ensures.board;
   wide = (let bits = c.add_side.ensures.bits in omega (arith, c.in_ok-board.ensures.wide));
   spot = seed_added (c.args.item ∷ []) 0 c.in_ok-board.board c.add_side.new.self (omega arith) c.in_ok-board.ensures.spot c.add_side.ensures;
   parent = refl;

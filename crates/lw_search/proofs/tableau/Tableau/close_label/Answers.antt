@@ -3,9 +3,6 @@ use Rattle.lw_search.proofs.ClosedSeeds.{reopens_or_closes, step_closes}
 use Rattle.lw_search.proofs.LabelsUnderWork.{closing_every}
 use Rattle.lw_search.proofs.tableau.Tableau.close_label.Goals as goal
 
-pub use_step-requires-clause-board : goal.use_step-requires-clause-board
-use_step-requires-clause-board g c = c.requires.closes.3.waits.serves.at.board
-
 pub use_step-requires-clause-wide : goal.use_step-requires-clause-wide
 use_step-requires-clause-wide g c = c.requires.closes.3.waits.serves.at.wide
 
@@ -35,7 +32,6 @@ returns g c aim a b h few =
     let l = c.args.level.now in
     let becomes = c.use_step.ensures h.waits.inner h.waits.asks.parts in
     let whole = rw c.self.view_is at c.in_ok-whole.ensures in
-    let closing = step_closes t aim a b l c.args.above c.args.proof h c.use_step.new.board c.in_ok-whole.whole becomes whole in
     let e = c.unwind.ensures in
     reopens_or_closes t aim a b l c.args.above c.args.proof h c.use_step.new.board c.in_ok-whole.whole becomes whole
-    (record l { frames = c.unwind.new.frames; board = c.unwind.new.board }) c.unwind.result refl ((rw c.self.view_is at e.folded) a.seed (aim.rank a.path a.left) closing) e.board e.bits e.falls e.steps few
+    (record l { frames = c.unwind.new.frames; board = c.unwind.new.board }) c.unwind.result refl (rw c.self.view_is at e.folded) e.bits e.falls e.steps few

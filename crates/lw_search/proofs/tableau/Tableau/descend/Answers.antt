@@ -14,4 +14,4 @@ returns g c aim h =
     let planted = c.in_ok-board.ensures in
     descended _ aim s h _ c.requires.asked c.requires.far (record { below = c.push.new.self; level = c.replace-level.new.dest; fragment = s.fragment })
     (c.in_ok-push.ensures.items ∙ ap (λ (l : Level). s.below.items ++ l ∷ []) was.value) (ap (λ (l : Level). l.frames.items) was.after ∙ c.new.ensures.items) (ap (λ (l : Level). l.parent) was.after) refl
-    (rw was.after planted.board) (rw was.after planted.wide) (ap (λ (l : Level). spot_of l.board) was.after ∙ planted.spot) (rw was.after planted.room)
+    (rw was.after planted.wide) (ap (λ (l : Level). spot_of l.board) was.after ∙ planted.spot) (rw was.after planted.room)

@@ -10,9 +10,6 @@ close_label-requires-clause-closes g c =
     let closes = step_closed _ aim c.args.search.now _ _ (c.loop-level.invariant aim h) _ _ c.in-Some.ensures.items in
     (aim, closes.0, closes.1, rw (was.after, was.value) closes.2)
 
-pub close_label-requires-clause-board : goal.close_label-requires-clause-board
-close_label-requires-clause-board g c = rw c.replace-above.ensures.value (c.loop-level.invariant _ c.requires.1).0.board
-
 pub close_label-requires-clause-wide : goal.close_label-requires-clause-wide
 close_label-requires-clause-wide g c = rw c.replace-above.ensures.value (c.loop-level.invariant _ c.requires.1).0.wide
 

@@ -1,7 +1,7 @@
 use Rattle.std.proofs.Common.{◌≡◌, ℕ, ◌<◌, true}
 use Rattle.lw_proof.specs.System.{IsWithin}
 use Rattle.lw_sat.specs.Sets.{among, top}
-use Rattle.lw_search.specs.Step.{kept_of}
+use Rattle.lw_search.specs.Private.StepUse.{kept_of}
 use Rattle.lw_search.proofs.tableau.Tableau.has_kept.Given as goal
 
 abbrev pub invariant-loop-item : goal.invariant-loop-item

@@ -27,4 +27,4 @@ pub returns-clause-below : goal.returns-clause-below
 returns-clause-below g c = c.loop-item.invariant.own
 
 pub returns-clause-same : goal.returns-clause-same
-returns-clause-same g c = listed_all c.args.self.now (top c.args.label.now.labels) c.loop-item.item c.loop-item.items.items c.requires.own (omega arith) c.loop-item.invariant.same
+returns-clause-same g c = listed_all c.args.self.now (top c.args.label.now.labels) c.loop-item.item c.loop-item.items.items c.requires (omega arith) c.loop-item.invariant.same

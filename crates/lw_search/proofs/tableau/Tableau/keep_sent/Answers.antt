@@ -4,8 +4,7 @@ use Rattle.lw_proof.specs.System.{Set}
 use Rattle.lw_sat.specs.declared.board.Board.{Board}
 use Rattle.lw_sat.specs.SeedPath.{spot_of, Becomes}
 use Rattle.lw_sat.specs.Sets.{top}
-use Rattle.lw_search.specs.Step.{kept_of}
-use Rattle.lw_search.specs.Private.StepUse.{meets}
+use Rattle.lw_search.specs.Private.StepUse.{kept_of, meets}
 use Rattle.lw_search.proofs.LabelsByItem.{cleared, cleared_all, cleared_none, passes_on, taken_out}
 use Rattle.lw_search.proofs.tableau.Tableau.keep_sent.Goals as goal
 use Rattle.lw_search.proofs.tableau.Tableau.keep_sent.Goals.{then-other-item+then-not-sends, else-other-item, else-other-item-via-then-other-item+else-not-sends, else-other-item-via-else-other-item}
@@ -14,7 +13,6 @@ pub loop-other-init : goal.loop-other-init
 loop-other-init g c =
     let b = c.args.board.now in
     record {
-      board = c.requires.board;
       spot = ap (λ (X : Set ℕ). record (spot_of b) { set = X }) (cleared_none (top b.labels) (λ i. eqb c.args.item i || meets c.args.self.now (kept_of c.args.self.now i) (top c.args.above.now.labels)));
       bits = refl;
     }

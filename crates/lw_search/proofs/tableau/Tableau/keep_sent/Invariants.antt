@@ -1,8 +1,7 @@
 use Rattle.std.proofs.Common.{◌||◌, eqb}
 use Rattle.lw_sat.specs.SeedPath.{spot_of, Becomes}
 use Rattle.lw_sat.specs.Sets.{top}
-use Rattle.lw_search.specs.Step.{kept_of}
-use Rattle.lw_search.specs.Private.StepUse.{meets}
+use Rattle.lw_search.specs.Private.StepUse.{kept_of, meets}
 use Rattle.lw_search.proofs.LabelsByItem.{cleared}
 use Rattle.lw_search.proofs.tableau.Tableau.keep_sent.Given as goal
 

@@ -10,8 +10,8 @@ use Rattle.lw_search.proofs.LabelsByItem.{left_both}
 use Rattle.lw_search.proofs.StepSeeds.{added_below, inner_below}
 use Rattle.lw_search.proofs.tableau.Tableau.leave_added.Goals as goal
 
-pub remove-requires-in-Some-clause-inside : goal.remove-requires-in-Some-clause-inside
-remove-requires-in-Some-clause-inside g c =
+pub remove-requires-in-Some : goal.remove-requires-in-Some
+remove-requires-in-Some g c =
     let t = c.args.self.now in
     let is = rw c.self.view_is at c.self.invariant in
     let parts : (entry_at t c.args.item).parts ≡ Pi c.in-Pi.inner = sym (rw c.self.view_is at c.in-Pi.ensures) in

@@ -2,8 +2,8 @@ use Rattle.std.proofs.Common.{refl}
 use Rattle.lw_search.proofs.NextStates.{label_items, linked_serving, linked_witness}
 use Rattle.lw_search.proofs.tableau.Tableau.link.Goals as goal
 
-pub target-requires-clause-own : goal.target-requires-clause-own
-target-requires-clause-own g c = label_items _ _ _ c.args.search.now.level c.requires.1.serves.at
+pub target-requires : goal.target-requires
+target-requires g c = label_items _ _ _ c.args.search.now.level c.requires.1.serves.at
 
 pub returns-in_ok-link-in-Some : goal.returns-in_ok-link-in-Some
 returns-in_ok-link-in-Some g c aim h =

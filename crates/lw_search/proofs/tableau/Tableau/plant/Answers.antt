@@ -3,7 +3,7 @@ use Rattle.lw_proof.specs.Derivation.{added}
 use Rattle.lw_closure.specs.Items.{items}
 use Rattle.lw_closure.specs.Table.{item_count}
 use Rattle.lw_sat.specs.Moves.{listed}
-use Rattle.lw_sat.specs.SeedPath.{spot_of, IsBoard, IsWide}
+use Rattle.lw_sat.specs.SeedPath.{spot_of, IsWide}
 use Rattle.lw_sat.specs.Sets.{top, AreBelow}
 use Rattle.lw_sat.proofs.ItemDemands.{below_more}
 use Rattle.lw_search.proofs.LabelsByItem.{kept_more, kept_skip, planted, planted_room}
@@ -19,21 +19,19 @@ loop-kept-preserved g c =
     let h = c.loop-kept.invariant in
     elim c.if-has.branch [
       | then-has w ↦ record {
-        board = subst IsBoard (sym w.seed-is) w.take_along.ensures.board;
         wide = subst (IsWide t) (sym w.seed-is) (let bits = w.take_along.ensures.bits in let wide = h.wide in omega arith);
         few = (let bits = w.take_along.ensures.bits in let same = ap (λ b. b.bits) w.seed-is in let few = h.few in omega arith);
         spot = ap spot_of w.seed-is ∙ kept_more t X c.loop-kept.kept c.loop-kept.seed w.take_along.new.board (sym c.has.ensures ∙ w.if-has.true) h.spot w.take_along.ensures;
       }
       | else-has w ↦ record {
-        board = subst IsBoard (sym w.seed-is) h.board;
         wide = subst (IsWide t) (sym w.seed-is) h.wide;
         few = (let same = ap (λ b. b.bits) w.seed-is in let few = h.few in omega arith);
         spot = ap spot_of w.seed-is ∙ kept_skip t X c.loop-kept.kept c.loop-kept.seed (sym c.has.ensures ∙ w.if-has.false) h.spot;
       }
     ]
 
-pub add_side-requires-clause-inside : goal.add_side-requires-clause-inside
-add_side-requires-clause-inside g c =
+pub add_side-requires : goal.add_side-requires
+add_side-requires g c =
     let t = c.args.self.now in
     let is = rw c.self.view_is at c.self.invariant in
     let same : added (items t) t.logic c.args.item c.args.inner ≡ listed (c.args.inner, c.beside.result) = ap (λ L. added (items t) L c.args.item c.args.inner) is.logic ∙ (rw c.self.view_is at c.beside.ensures) c.args.inner in

@@ -4,8 +4,8 @@ use Rattle.lw_search.specs.Private.SearchLevels.{IsServing}
 use Rattle.lw_search.proofs.NextStates.{label_items, settled_room, settled_serving}
 use Rattle.lw_search.proofs.tableau.Tableau.settle.Goals as goal
 
-pub items_in-requires-clause-own : goal.items_in-requires-clause-own
-items_in-requires-clause-own g c =
+pub items_in-requires : goal.items_in-requires
+items_in-requires g c =
     let h = c.requires.work.1 in
     label_items c.args.self.now h.stands.place.seed (c.requires.work.0.rank h.stands.place.path h.stands.place.left) c.args.search.now.level h.at
 

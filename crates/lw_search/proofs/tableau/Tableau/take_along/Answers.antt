@@ -1,5 +1,6 @@
 use Rattle.std.proofs.Common.{◌&&◌, ◌||◌, ap, eqb, refl, sym, ◌∙◌}
-use Rattle.lw_search.specs.Step.{keeps_inside, keeps_nu, kept_of}
+use Rattle.lw_search.specs.Step.{keeps_inside, keeps_nu}
+use Rattle.lw_search.specs.Private.StepUse.{kept_of}
 use Rattle.lw_search.proofs.KeptItems.{kept_none, kept_nu}
 use Rattle.lw_search.proofs.LabelsByItem.{added_both}
 use Rattle.lw_search.proofs.tableau.Tableau.take_along.Goals as goal
@@ -15,4 +16,4 @@ returns-in-Nu g c =
 pub returns-in_default : goal.returns-in_default
 returns-in_default g c =
     let is = rw c.self.view_is at c.self.invariant in
-    rw (kept_none c.args.self.now is.uncut c.args.item c.requires.item c.parts.result (rw c.self.view_is at c.parts.ensures) c.in_default.not-Nu) (record { board = c.requires.board; spot = refl; bits = refl })
+    rw (kept_none c.args.self.now is.uncut c.args.item c.requires.item c.parts.result (rw c.self.view_is at c.parts.ensures) c.in_default.not-Nu) (record { spot = refl; bits = refl })

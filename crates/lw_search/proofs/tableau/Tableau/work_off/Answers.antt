@@ -9,4 +9,4 @@ pub returns : goal.returns
 returns g c aim h =
     let ran = c.run.ensures in
     worked c.args.self.now aim c.args.search.now h (record c.args.search.now.level { frames = c.run.new.frames; board = c.run.new.board }) refl c.run.result
-    ((rw c.self.view_is at ran.found) h.stands.place.seed (aim.rank h.stands.place.path h.stands.place.left) (h.stands.guides.goes_on h.stands.place.path h.stands.place.left) h.at) ran.board ran.bits ran.falls ran.steps
+    (rw c.self.view_is at ran.found) ran.bits ran.falls ran.steps
