@@ -1,5 +1,5 @@
 -- Labels that wait, and which modal formulas they decide.
-use Rattle.std.proofs.Common.{◌≡◌, ℕ, ◌+◌, ◌*◌, ◌/◌, ◌%◌, ◌<◌, ◌⊎◌, Bool, true, List, length, inl, inr, refl, sym, ap, subst, ◌∙◌, arith}
+use Rattle.std.proofs.Common.{◌≡◌, ℕ, ◌+◌, ◌*◌, ◌/◌, ◌%◌, ◌<◌, ◌⊎◌, true, List, length, inl, inr, refl, sym, ap, subst, ◌∙◌, arith}
 use Rattle.std.specs.Bool.{IsTrue}
 use Rattle.std.proofs.lemmas.Bool.{cases_eq, or_cases, or_left, or_right}
 use Rattle.lw_formula.specs.declared.sign.Sign.{Sign}
@@ -15,8 +15,7 @@ use Rattle.lw_closure.proofs.ItemNumbers.{sign_even, sign_odd, flip_even, flip_o
 use Rattle.lw_sat.specs.declared.saturation.Found.{Found}
 use Rattle.lw_sat.specs.declared.saturation.Found.TheVariants.{Unclosed}
 use Rattle.lw_sat.specs.declared.saturation.Saturation.{Saturation}
-use Rattle.lw_sat.specs.Course.{FoundFits, IsUnclosedFrom, IsUnderWay}
-use Rattle.lw_sat.specs.Moves.{Survives}
+use Rattle.lw_sat.specs.Course.{Finds, FoundFits, IsUnclosedFrom, IsUnderWay}
 use Rattle.lw_sat.specs.Saturated.{every}
 use Rattle.lw_sat.specs.Sets.{IsOfItems}
 use Rattle.lw_sat.proofs.SaturationCourse.{at_waiting, every_survives}
@@ -25,14 +24,14 @@ use Rattle.lw_s5.specs.Private.RootedSearch.{HasLabel, decides, IsDecidedBy, IsM
 
 -- what a saturation that is under way comes to where it finds no proof
 pub unclosed_from : (t : Table) (X : Set ℕ) (old new : Saturation) (f : Found) → IsUnderWay t X every old →
-    ((Y : Set ℕ) (test : Set ℕ → Bool) → Survives t test → IsUnderWay t Y test old → FoundFits t Y test new f) → f ≡ Unclosed → IsUnclosedFrom t X every new
+    Finds t old new f → f ≡ Unclosed → IsUnclosedFrom t X every new
 unclosed_from t X old new f under found is = subst (FoundFits t X every new) is (found X every (every_survives t) under)
 
 -- what was found unclosed is a label that waits
 pub has_label : (t : Table) (X : Set ℕ) (s : Saturation) → IsUnclosedFrom t X every s → HasLabel t s
 has_label t X s h =
     let at = at_waiting t X every s.frames.items s.board s.state h.waits h.under in
-    record { waiting = h.waits; board = at.board; wide = at.wide; items = at_items t X every s.frames.items s.board at; unclosed = h.unclosed }
+    record { waiting = h.waits; wide = at.wide; items = at_items t X every s.frames.items s.board at; unclosed = h.unclosed }
 
 -- a formula is modal under both signs or under neither
 modal_alike : (a : Formula) → is_modal_part (parts_of (T, a)) ≡ is_modal_part (parts_of (F, a))

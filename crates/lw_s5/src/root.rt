@@ -1,10 +1,10 @@
 // The root with its children.
-ghost use Rattle.std.specs.Prelude.{◌≡◌, ℕ, ◌<◌, ◌↔◌, IsTrue, IfErr, IfNone, IfOk, IfSome};
+ghost use Rattle.std.specs.Prelude.{◌≡◌, ◌<◌, ◌↔◌, IsTrue, IfErr, IfNone, IfOk, IfSome};
 ghost use Rattle.lw_formula.specs.declared.logic.Logic.TheVariants.{S5};
 ghost use Rattle.lw_formula.specs.declared.parts.Parts.TheVariants.{Pi};
 ghost use Rattle.lw_closure.specs.Table.{entry_at, item_count};
 ghost use Rattle.lw_sat.specs.Course.{label};
-ghost use Rattle.lw_s5.specs.Private.RootedSearch.{HasLabel, IsInWorld, IsModalAlike, IsObstacle, Surrounds};
+ghost use Rattle.lw_s5.specs.Private.RootedSearch.{HasLabel, IsInWorld, IsModalAlike, IsObstacle, IsServedIn, Surrounds};
 
 use crate::child::child;
 use crate::label::items;
@@ -44,7 +44,7 @@ fn asked(closure: &Closure, root: &Saturation, fragment: &Fragment, item: usize)
     requires label { HasLabel closure.now root.now }
     requires item { item < item_count closure.now }
     ensures some { IfSome result (λ component. IsTrue (label root.now item) × ((entry_at closure.now item).parts ≡ Pi component)) }
-    ensures none { IfNone result ((c : ℕ) → IsTrue (label root.now item) → (entry_at closure.now item).parts ≡ Pi c → IsInWorld fragment.now c) }
+    ensures none { IfNone result (IsServedIn closure.now (label root.now) fragment.now item) }
 {
     match closure.parts(item) {
         Parts::Pi(component) if root.has(item) && !is_in_world(fragment, component) => {

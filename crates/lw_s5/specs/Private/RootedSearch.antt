@@ -12,7 +12,7 @@ use Rattle.lw_counter.specs.Fragment.{Fragment, world_at, items_of, HasItemsOf}
 use Rattle.lw_sat.specs.declared.saturation.Saturation.{Saturation}
 use Rattle.lw_sat.specs.Closing.{Closes}
 use Rattle.lw_sat.specs.Course.{label, waits}
-use Rattle.lw_sat.specs.SeedPath.{IsBoard, IsWide}
+use Rattle.lw_sat.specs.SeedPath.{IsWide}
 use Rattle.lw_sat.specs.Sets.{IsOfItems}
 use Rattle.lw_search.specs.Step.{count_below, is_asker}
 use Rattle.lw_s5.specs.declared.obstacle.Obstacle.{Obstacle}
@@ -21,7 +21,6 @@ use Rattle.lw_s5.specs.declared.obstacle.Obstacle.TheVariants.{Closed, Undecided
 -- an unclosed label of the table's items waits
 pub record HasLabel (t : Table) (s : Saturation) : Type 0 where
   pub waiting : IsTrue (waits s)
-  pub board : IsBoard s.board
   pub wide : IsWide t s.board
   pub items : IsOfItems t (label s)
   pub unclosed : IsUnclosedLabel t (label s)
@@ -53,6 +52,10 @@ pub record IsChild (t : Table) (R X : Set ℕ) : Type 0 where
 -- some world of the fragment has the item
 abbrev pub IsInWorld : Fragment → ℕ → Type 0
 IsInWorld f c = (w : ℕ) × (w < length f.worlds) × IsTrue (items_of f w c)
+
+-- where the item is a π of R, some world of the fragment has its component
+abbrev pub IsServedIn : Table → Set ℕ → Fragment → ℕ → Type 0
+IsServedIn t R f i = (c : ℕ) → IsTrue (R i) → (entry_at t i).parts ≡ Pi c → IsInWorld f c
 
 -- the fragment is the root with the label R and children of it, no more than the π below n ask for, and each π of R below n has a world
 -- with its component
