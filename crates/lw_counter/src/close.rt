@@ -126,7 +126,8 @@ fn add_facts(
     requires count { model.old.worlds ≡ length fragment.now.worlds }
     requires items { HasItemsOf closure.now fragment.now }
     requires live { All (IsLive pool.now) closure.now.forms }
-    ensures added { OnOk result (AddsFacts model.old model.new (FactsBelow pool.now closure.now fragment.now (length fragment.now.worlds))) }
+    ensures added { OnOk result (AddsFacts model.old model.new
+        (FactsBelow pool.now closure.now fragment.now (length fragment.now.worlds))) }
     ensures well_formed { OnOk result (IsWellFormed model.new) }
 {
     for world in 0..fragment.count() {

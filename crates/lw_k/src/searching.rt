@@ -28,7 +28,7 @@ pub fn search_k(
     match logic {
         Logic::K => search_by::<false>(alloc, pool, closure),
         Logic::KT => search_by::<true>(alloc, pool, closure),
-        _ => unreachable!(),
+        Logic::S4 | Logic::S5 | Logic::GL | Logic::Grz => unreachable!(),
     }
 }
 
