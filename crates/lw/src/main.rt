@@ -2,25 +2,11 @@
 //! `check FILE` reads a certificate and writes whether it shows what it claims.
 #![tactic(auto)]
 
-mod answer;
-mod asked;
-mod check_file;
-mod finding;
-mod prove;
-#[cfg(test)]
-mod tests;
-mod words;
-mod workbench;
-
-pub use answer::{Answer, SyntaxWhy};
-pub use asked::{Command, FileName};
-pub use finding::Finding;
+use lw_cli::workbench;
 use lw_io::{DiskStore, StdSink};
 use std::env;
 use std::io::ErrorKind;
 use std::process::ExitCode;
-pub use words::command;
-pub use workbench::workbench;
 
 /// The status where the words are no command.
 const NO_COMMAND: u8 = 2;
