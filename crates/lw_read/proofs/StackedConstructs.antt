@@ -90,14 +90,25 @@ above-append h xs ys rest = sym (ap (λ zs. zs ++ rest) (map-append (λ (k : ℕ
 pub above-prefix : (h w : ℕ) (xs rest : List ℕ) → w ≡ h + 1 → w ∷ (above w xs ++ rest) ≡ above h (1 ∷ map suc xs) ++ rest
 above-prefix h w xs rest is = let shift = above-suc h w xs is in cc
 
+-- an operand, a sign or a comma at which so many are unfinished, and what stands behind it
+pub above-next : (h n w : ℕ) (xs inner ys start here behind rest : List ℕ) → above w xs ≡ above h inner
+    → start ≡ above w xs ++ here → here ≡ (h + n) ∷ behind → behind ≡ above h ys ++ rest → start ≡ above h (inner ++ (n ∷ ys)) ++ rest
+above-next h n w xs inner ys start here behind rest is first sign second =
+    let parts = above-append h inner (n ∷ ys) rest in
+    cc
+
 -- an operand, a sign, and behind it its operand
 pub above-infix : (h w : ℕ) (xs ys rest : List ℕ) → w ≡ h + 1 → above h xs ++ (w ∷ (above w ys ++ rest)) ≡ above h (xs ++ (1 ∷ map suc ys)) ++ rest
 above-infix h w xs ys rest is = ap (λ zs. above h xs ++ zs) (above-prefix h w ys rest is) ∙ above-append h xs (1 ∷ map suc ys) rest
 
--- an opening bracket, what stands within it, and the closing one
-pub above-brackets : (h w : ℕ) (xs rest : List ℕ) → w ≡ h + 1 → w ∷ (above w xs ++ (h ∷ rest)) ≡ above h (1 ∷ (map suc xs ++ (0 ∷ []))) ++ rest
-above-brackets h w xs rest is =
+-- what stands within brackets, and the closing one
+pub above-closed : (h w : ℕ) (xs rest : List ℕ) → w ≡ h + 1 → above w xs ++ (h ∷ rest) ≡ above h (map suc xs ++ (0 ∷ [])) ++ rest
+above-closed h w xs rest is =
     let shift = above-suc h w xs is in
     let none : h + 0 ≡ h = omega arith in
     let parts = above-append h (map suc xs) (0 ∷ []) rest in
     cc
+
+-- and with the opening one
+pub above-brackets : (h w : ℕ) (xs rest : List ℕ) → w ≡ h + 1 → w ∷ (above w xs ++ (h ∷ rest)) ≡ above h (1 ∷ (map suc xs ++ (0 ∷ []))) ++ rest
+above-brackets h w xs rest is = let closed = above-closed h w xs rest is in cc
