@@ -1,6 +1,5 @@
 -- Reading token by token with a machine, for any language: the machine goes astray exactly where no text goes on, so
--- each fault is found at its token (a pushdown automaton with the viable-prefix property: Aho and Ullman, The theory of
--- parsing, translation, and compiling, volume 1).
+-- each fault is found at its token (the viable-prefix property: Aho, Sethi and Ullman, Compilers).
 use Rattle.std.specs.Prelude.{◌≡◌, ◌≢◌, ℕ, ◌<◌, true, false, List, [], ◌∷◌, ◌⊎◌}
 use Rattle.lw_read.specs.declared.lexer.Token.{Token}
 use Rattle.lw_read.specs.declared.lexer.TokenKind.TheVariants.{Bad, Stop}
@@ -39,16 +38,19 @@ module _ {A T S : Type 0} (M : Machine A T S) where
 
 -- the machine reads the language
 pub record IsReaderOf {A T S : Type 0} (L : Language A T) (M : Machine A T S) : Type 0 where
-  -- it makes the tree of each text, and of nothing else
+  -- it makes the tree of each text
   pub accepts : (ts : List A) (a : T) → L.IsText ts a → run M ts M.start ≡ M.over a
+  -- and of nothing else
   pub sound : (ts : List A) (a : T) → run M ts M.start ≡ M.over a → L.IsText ts a
   -- where it isn't astray, some text goes on
   pub completes : (ts : List A) → run M ts M.start ≢ M.astray → Begins (grammar_of L) ts
   -- and where it is, it stays so
   pub lost : (t : A) → M.step t M.astray ≡ M.astray
+  -- a text that is over isn't astray
   pub apart : (a : T) → M.over a ≢ M.astray
-  -- it counts what the grammar counts
+  -- at first nothing is unfinished
   pub bare : M.height M.start ≡ 0
+  -- it counts what the grammar counts
   pub counts : (ts : List A) (a : T) (text : L.IsText ts a) → L.counts ts a text ≡ heights M ts M.start
   -- the end of a text, and a byte that begins no token, leave nothing open
   pub stops : (text : List ℕ) (token : Token) (s : S) → (token.kind ≡ Stop) ⊎ (token.kind ≡ Bad) →
