@@ -1,0 +1,145 @@
+//! Cases on certificates.
+
+ghost use Rattle.std.specs.Prelude.{◌≡◌};
+ghost use Rattle.lw_cases.specs.Certified.{certificate_of};
+
+use crate::formulas::entered;
+use crate::items::add_item;
+use crate::setting::Setting;
+use crate::top_call::both_lines;
+use crate::unanswered::Unanswered;
+use lw_cert::{Body, CertFault, Certificate, certificate_text, read_certificate};
+use lw_counter::Answer;
+use lw_decide::decide;
+use lw_formula::Logic;
+use lw_pool::{FormId, Pool};
+use std::alloc::{AllocError, Global};
+
+/// The logics, in the order in which each is named.
+pub const LOGICS: [Logic; 6] = [
+    Logic::K,
+    Logic::KT,
+    Logic::S4,
+    Logic::S5,
+    Logic::GL,
+    Logic::Grz,
+];
+
+// The certificate of the answer to the formula.
+fn certificate_of(logic: Logic, formula: FormId, answer: Answer) -> Certificate
+    ensures { result ≡ certificate_of logic formula answer }
+{
+    let body = match answer {
+        Answer::Yes(proof) => Body::Proved(proof),
+        Answer::No(model, world) => Body::Refuted(model, world),
+    };
+    Certificate {
+        logic,
+        formula,
+        body,
+    }
+}
+
+// The text of the certificate that shows whether the text's formula is valid in the logic.
+fn certified(alloc: Global, logic: Logic, text: &[u8]) -> Result<Vec<u8>, Unanswered> {
+    let mut pool = Pool::new(alloc);
+    certified_in(alloc, &mut pool, logic, text)
+}
+
+fn certified_in(
+    alloc: Global,
+    pool: &mut Pool,
+    logic: Logic,
+    text: &[u8],
+) -> Result<Vec<u8>, Unanswered> {
+    let formula = entered(alloc, pool, text)?;
+    let answer = decide(alloc, pool, logic, formula)?;
+    let certificate = certificate_of(logic, formula, answer);
+    Ok(certificate_text(alloc, pool, &certificate)?)
+}
+
+// What `prove` and `check` write in the logic, with their statuses.
+fn logic_line(setting: &Setting, logic: Logic) -> Result<Vec<u8>, Unanswered> {
+    let certificate = certified(setting.alloc, logic, &setting.text)?;
+    let lines = both_lines(setting, logic, certificate)?;
+    let mut line = format!(in setting.alloc; "{}: ", logic.word())?.into_bytes();
+    line.extend_from_slice(&lines)?;
+    Ok(line)
+}
+
+/// In each logic what `prove` writes of the text, and what `check` writes of the certificate of what is decided.
+pub fn logics_line(setting: &Setting) -> Result<Vec<u8>, Unanswered> {
+    let mut line = Vec::new(setting.alloc);
+    for logic in &LOGICS {
+        line.extend_from_slice(&logic_line(setting, *logic)?)?;
+    }
+    Ok(line)
+}
+
+/// Whether the text is written again, from a copy of the certificate that is read from it.
+pub fn copy_line(alloc: Global, text: &[u8]) -> Result<&'static str, Unanswered> {
+    let mut pool = Pool::new(alloc);
+    let certificate = read_certificate(alloc, &mut pool, text)?;
+    let again = certificate_text(alloc, &pool, &certificate.try_clone()?)?;
+    Ok(if again.as_slice() == text {
+        "the same"
+    } else {
+        "another"
+    })
+}
+
+// Why the text is no certificate's, if it is none.
+fn fault(alloc: Global, text: &[u8]) -> Option<CertFault> {
+    let mut pool = Pool::new(alloc);
+    read_certificate(alloc, &mut pool, text).err()
+}
+
+fn fault_text(alloc: Global, text: &[u8]) -> Result<String, AllocError> {
+    match fault(alloc, text) {
+        Some(CertFault::ModelText { line }) => format!(in alloc; "model {line}"),
+        Some(CertFault::ProofText { line }) => format!(in alloc; "proof {line}"),
+        Some(CertFault::Memory) => Err(AllocError),
+        None => String::from_str(alloc, "none"),
+    }
+}
+
+/// The faults of the text cut behind each of its bytes from none on, each with how often it comes in a row.
+pub fn cut_line(alloc: Global, text: &[u8]) -> Result<String, AllocError> {
+    let mut runs = Vec::new(alloc);
+    for len in 0..=text.len() {
+        add_run(&mut runs, fault_text(alloc, &text[..len])?)?;
+    }
+    run_list(alloc, &runs)
+}
+
+fn is_last(runs: &[(String, usize)], fault: &str) -> bool {
+    match runs.last() {
+        Some((last, _)) => last.as_str() == fault,
+        None => false,
+    }
+}
+
+fn count_last(runs: &mut [(String, usize)]) {
+    let len = runs.len();
+    if len > 0 {
+        runs[len - 1].1 = runs[len - 1].1.saturating_add(1);
+    }
+}
+
+// Counts a fault with the last run, or begins one.
+fn add_run(runs: &mut Vec<(String, usize)>, fault: String) -> Result<(), AllocError> {
+    if is_last(runs, fault.as_str()) {
+        count_last(runs);
+    } else {
+        runs.push((fault, 1))?;
+    }
+    Ok(())
+}
+
+fn run_list(alloc: Global, runs: &[(String, usize)]) -> Result<String, AllocError> {
+    let mut list = String::new(alloc);
+    for (fault, count) in runs {
+        add_item(&mut list, format!(in alloc; "{count} {fault}")?.as_str())?;
+    }
+    Ok(list)
+}
