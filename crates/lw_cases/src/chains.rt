@@ -46,7 +46,7 @@ fn chain(alloc: Global) -> Result<Fragment, AllocError>
 pub fn chain_line(alloc: Global, logic: Logic) -> Result<String, Unanswered> {
     let mut pool = Pool::new(alloc);
     let goal = entered(alloc, &mut pool, b"box p")?;
-    let table = closure(&mut pool, Logic::K, goal)?;
+    let table = closure(alloc, &mut pool, Logic::K, goal)?;
     if table.count() != 2 {
         return Err(Unanswered);
     }

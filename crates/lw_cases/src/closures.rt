@@ -46,7 +46,7 @@ fn items_in(
     text: &[u8],
 ) -> Result<String, Unanswered> {
     let goal = entered(alloc, pool, text)?;
-    match closure(pool, logic, goal) {
+    match closure(alloc, pool, logic, goal) {
         Ok(table) => Ok(table_text(alloc, &table)?),
         Err(ClosureFault::TooLarge { count }) => Ok(format!(in alloc; "too large {count}")?),
         Err(ClosureFault::Memory) => Err(Unanswered),

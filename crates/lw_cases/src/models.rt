@@ -128,7 +128,7 @@ fn worlds_line(alloc: Global, model: &Model, pool: &Pool, id: FormId) -> Result<
 {
     let mut list = String::new(alloc);
     for world in 0..model.worlds() {
-        if holds(model, world, pool, id)? {
+        if holds(alloc, model, world, pool, id)? {
             add_item(&mut list, format!(in alloc; "{world}")?.as_str())?;
         }
     }

@@ -21,6 +21,7 @@ fn verdict_text(alloc: Global, verdict: Verdict) -> Result<String, AllocError> {
 
 // The verdict on the certificate's proof in the logic.
 fn verdict_on(
+    alloc: Global,
     pool: &mut Pool,
     logic: Logic,
     certificate: &Certificate,
@@ -28,7 +29,7 @@ fn verdict_on(
     requires { (sheet : Sheet) × IsSheetOf pool.old certificate.now sheet }
 {
     match &certificate.body {
-        Body::Proved(proof) => Ok(check(pool, logic, certificate.formula, proof)?),
+        Body::Proved(proof) => Ok(check(alloc, pool, logic, certificate.formula, proof)?),
         Body::Refuted(..) => Err(Unanswered),
     }
 }
@@ -36,7 +37,7 @@ fn verdict_on(
 fn verdict_in(alloc: Global, logic: Logic, text: &[u8]) -> Result<Verdict, Unanswered> {
     let mut pool = Pool::new(alloc);
     let certificate = read_certificate(alloc, &mut pool, text)?;
-    verdict_on(&mut pool, logic, &certificate)
+    verdict_on(alloc, &mut pool, logic, &certificate)
 }
 
 /// The verdicts on the proof of the text in each logic, whichever logic the text names.

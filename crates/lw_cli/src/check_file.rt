@@ -56,7 +56,7 @@ fn judged(alloc: Global, pool: &mut Pool, certificate: &Certificate) -> Result<F
     let formula = certificate.formula;
     match &certificate.body {
         Body::Proved(proof) => proof_finding(alloc, pool, logic, formula, proof),
-        Body::Refuted(model, world) => model_finding(pool, logic, formula, model, *world),
+        Body::Refuted(model, world) => { model_finding(alloc, pool, logic, formula, model, *world) }
     }
 }
 
@@ -80,6 +80,7 @@ fn proof_finding(
 
 // What is to be said of the model.
 fn model_finding(
+    alloc: Global,
     pool: &Pool,
     logic: Logic,
     goal: FormId,
@@ -94,7 +95,7 @@ fn model_finding(
     if !in_class(model, logic) {
         return Ok(Finding::RejectedModel);
     }
-    if holds(model, world, pool, goal)? {
+    if holds(alloc, model, world, pool, goal)? {
         Ok(Finding::RejectedModel)
     } else {
         Ok(Finding::Accepted)

@@ -2,7 +2,7 @@ use Rattle.std.proofs.Common.{◌+◌, ◌<◌, sym, subst, arith}
 use Rattle.std.proofs.lemmas.List.Elements.{All-nil}
 use Rattle.lw_closure.specs.Table.{item_count}
 use Rattle.lw_counter.specs.Fragment.{Fragment, HasItemsOf}
-use Rattle.lw_counter.proofs.Forms.{items_cut}
+use Rattle.lw_counter.proofs.WellFormedFragments.{items_cut}
 use Rattle.lw_cases.proofs.chains.chain.Goals as goal
 
 pub returns-clause-items : goal.returns-clause-items
