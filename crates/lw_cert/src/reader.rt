@@ -118,6 +118,3 @@ fn is_modelling(stage: &Stage) -> bool
         | Stage::Ended(_) => false,
     }
 }
-
-#[cfg(test)]
-mod tests;

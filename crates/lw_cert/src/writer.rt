@@ -56,6 +56,3 @@ fn write_body(alloc: Global, pool: &Pool, body: &Body, out: &mut Vec<u8>) -> Res
         Body::Refuted(model, world) => write_model(alloc, model, *world, out),
     }
 }
-
-#[cfg(test)]
-mod tests;

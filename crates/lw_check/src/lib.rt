@@ -4,8 +4,6 @@
 mod judge;
 mod premise;
 mod step;
-#[cfg(test)]
-mod tests;
 mod verdict;
 mod walked;
 

@@ -6,8 +6,6 @@ mod close;
 mod fragment;
 mod laws;
 mod relation;
-#[cfg(test)]
-mod tests;
 
 pub use answer::Answer;
 pub use fragment::Fragment;

@@ -3,8 +3,6 @@
 
 mod deciding;
 mod fault;
-#[cfg(test)]
-mod tests;
 
 pub use deciding::decide;
 pub use fault::DecideFault;

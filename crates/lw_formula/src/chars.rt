@@ -69,17 +69,3 @@ impl Hash for Chars {
         self.bytes.as_slice().hash(state);
     }
 }
-
-#[cfg(test)]
-mod tests {
-    use super::*;
-    use std::test::Fail;
-
-    #[test]
-    fn a_clone_has_the_same_bytes(rt: HostRuntime) -> Result<(), Fail> {
-        let text = Chars::from_bytes(rt.alloc(), b"a b\n")?;
-        assert_eq!(rt; text.as_bytes(), b"a b\n".as_slice());
-        assert_eq!(rt; text.try_clone()?.as_bytes(), b"a b\n".as_slice());
-        Ok(())
-    }
-}

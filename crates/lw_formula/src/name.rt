@@ -217,34 +217,3 @@ fn is_name(bytes: &[u8]) -> bool
         [] => false,
     }
 }
-
-#[cfg(test)]
-mod tests {
-    use super::*;
-    use std::test::Fail;
-
-    #[test]
-    fn reserved_words_are_no_names(rt: HostRuntime) -> Result<(), Fail> {
-        let alloc = rt.alloc();
-        assert_eq!(rt;
-            Name::from_bytes(alloc, b"box").err(),
-            Some(NameFault::BadName)
-        );
-        let name = Name::from_bytes(alloc, b"p1")?;
-        assert_eq!(rt; name.try_clone()?.as_bytes(), b"p1".as_slice());
-        Ok(())
-    }
-
-    #[test]
-    fn names_have_at_most_64_bytes(rt: HostRuntime) -> Result<(), Fail> {
-        let alloc = rt.alloc();
-        let longest = [b'a'; 64];
-        assert_eq!(rt; Name::from_bytes(alloc, &longest)?.as_bytes().len(), 64);
-        let longer = [b'a'; 65];
-        assert_eq!(rt;
-            Name::from_bytes(alloc, &longer).err(),
-            Some(NameFault::BadName)
-        );
-        Ok(())
-    }
-}

@@ -79,26 +79,3 @@ fn read_bytes<F: Read>(file: &mut F, alloc: Global, limit: usize) -> Result<Vec<
     }
     Ok(bytes)
 }
-
-#[cfg(test)]
-mod tests {
-    use super::*;
-    use std::test::Fail;
-
-    #[test]
-    fn reads_a_file_and_counts_one_that_is_not_there(rt: HostRuntime) -> Result<(), Fail> {
-        let path = "lw_io_disk_store_test";
-        fs::write(&rt, path, b"first line".as_slice())?;
-        let mut store = DiskStore::new(rt);
-        let part = store.fetch(rt.alloc(), path, 4);
-        let whole = store.fetch(rt.alloc(), path, 100);
-        fs::remove_file(&rt, path)?;
-        assert_eq!(rt; part?.as_slice(), b"first".as_slice());
-        assert_eq!(rt; whole?.as_slice(), b"first line".as_slice());
-        assert_eq!(rt; store.faults, 0);
-        let missing = store.fetch(rt.alloc(), path, 100);
-        assert_eq!(rt; missing.err(), Some(FetchFault::Failed));
-        assert_eq!(rt; store.faults, 1);
-        Ok(())
-    }
-}

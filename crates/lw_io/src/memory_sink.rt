@@ -128,22 +128,3 @@ fn add_within(bytes: &mut Vec<u8>, piece: &[u8])
         unreachable!();
     }
 }
-
-#[cfg(test)]
-mod tests {
-    use super::*;
-    use std::test::Fail;
-
-    #[test]
-    fn keeps_what_a_listed_write_may_and_then_what_fits(rt: HostRuntime) -> Result<(), Fail> {
-        let mut sink = MemorySink::with_room(rt.alloc(), 7)?;
-        sink.fail_at(2, 9)?;
-        sink.fail_at(2, 1)?;
-        sink.write(b"abc".as_slice())?;
-        assert_eq!(rt; sink.write(b"de".as_slice()), Err(Failed));
-        assert_eq!(rt; sink.bytes(), b"abcd".as_slice());
-        assert_eq!(rt; sink.write(b"fghi".as_slice()), Err(Failed));
-        assert_eq!(rt; sink.bytes(), b"abcdfgh".as_slice());
-        Ok(())
-    }
-}

@@ -134,26 +134,3 @@ fn bytes_of<'a>(files: &'a BTreeMap<String, Vec<u8>>, name: &str) -> Option<&'a 
 {
     files.get(name).map(Vec::as_slice)
 }
-
-#[cfg(test)]
-mod tests {
-    use super::*;
-    use std::test::Fail;
-
-    #[test]
-    fn gives_the_newest_bytes_at_each_fetch_that_is_not_listed(
-        rt: HostRuntime,
-    ) -> Result<(), Fail> {
-        let mut store = MemoryStore::new(rt.alloc());
-        store.put("notes", b"draft".as_slice())?;
-        store.put("notes", b"first line".as_slice())?;
-        store.fail_at(2)?;
-        let part = store.fetch(rt.alloc(), "notes", 4)?;
-        assert_eq!(rt; part.as_slice(), b"first".as_slice());
-        let listed = store.fetch(rt.alloc(), "notes", 4);
-        assert_eq!(rt; listed.err(), Some(FetchFault::Failed));
-        let whole = store.fetch(rt.alloc(), "notes", 100)?;
-        assert_eq!(rt; whole.as_slice(), b"first line".as_slice());
-        Ok(())
-    }
-}

@@ -57,15 +57,3 @@ fn write_whole<W: Write>(writer: &mut W, piece: &[u8]) -> Result<(), Failed>
     }
     Ok(())
 }
-
-#[cfg(test)]
-mod tests {
-    use super::*;
-
-    #[test]
-    fn writes_a_piece_without_a_fault(rt: HostRuntime) {
-        let mut sink = StdSink::new(rt);
-        assert_eq!(rt; sink.write(b"a line\n".as_slice()), Ok(()));
-        assert_eq!(rt; sink.faults, 0);
-    }
-}

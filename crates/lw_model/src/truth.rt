@@ -168,29 +168,3 @@ fn is_true_at_some(of: &Row, worlds: &[usize]) -> bool
     }
     false
 }
-
-#[cfg(test)]
-mod tests {
-    use super::*;
-    use std::alloc::Global;
-    use std::test::Fail;
-
-    fn box_p(alloc: Global, pool: &mut Pool) -> Result<FormId, Fail>
-        ensures { IfOk result (IsLive pool.new) }
-    {
-        let p = pool.make(Node::Var(Name::from_bytes(alloc, b"p")?))?;
-        Ok(pool.make(Node::Nec(p))?)
-    }
-
-    // World 0 sees world 1, which is a dead end, and p is true nowhere.
-    #[test]
-    fn a_dead_end_makes_each_box_true(rt: HostRuntime) -> Result<(), Fail> {
-        let mut model = Model::new(rt.alloc(), 2)?;
-        model.add_pair(0, 1)?;
-        let mut pool = Pool::new(rt.alloc());
-        let id = box_p(rt.alloc(), &mut pool)?;
-        assert!(rt; !holds(rt.alloc(), &model, 0, &pool, id)?);
-        assert!(rt; holds(rt.alloc(), &model, 1, &pool, id)?);
-        Ok(())
-    }
-}

@@ -11,8 +11,6 @@ mod node;
 mod pool;
 mod subformula;
 mod substitution;
-#[cfg(test)]
-mod tests;
 mod variable;
 mod walk;
 

@@ -82,35 +82,3 @@ impl SignedIds {
         *self.ids.allocator()
     }
 }
-
-#[cfg(test)]
-mod tests {
-    use super::*;
-    use lw_formula::Sign;
-    use lw_pool::FormId;
-    use std::test::Fail;
-
-    #[test]
-    fn an_item_that_is_added_twice_stands_once(rt: HostRuntime) -> Result<(), Fail> {
-        let form = FormId(7);
-        let first = SignedId {
-            sign: Sign::T,
-            form,
-        };
-        let second = SignedId {
-            sign: Sign::F,
-            form,
-        };
-        let mut set = SignedIds::new(rt.alloc());
-        set.add(first)?;
-        set.add(second)?;
-        set.add(first)?;
-        assert_eq!(rt; set.count(), 2);
-        assert_eq!(rt; set.as_slice()[0], first);
-        assert_eq!(rt; set.as_slice()[1], second);
-        set.cut(1);
-        assert!(rt; set.has(first));
-        assert!(rt; !set.has(second));
-        Ok(())
-    }
-}

@@ -242,32 +242,3 @@ fn symbol_len(symbols: &[&str], text: &[u8]) -> usize
     }
     0
 }
-
-#[cfg(test)]
-mod tests {
-    use super::*;
-    use std::test::Fail;
-
-    #[test]
-    fn tokens_of_each_kind_stand_at_their_bytes(rt: HostRuntime) -> Result<(), Fail> {
-        let text = b"p_1 # \xff~\n<->:=\"a b\"07\t18446744073709551616;\r$";
-        let tokens = tokens(rt.alloc(), text)?;
-        let expected = [
-            (TokenKind::Word, 0, 3),
-            (TokenKind::Symbol, 9, 12),
-            (TokenKind::Symbol, 12, 14),
-            (TokenKind::Text, 14, 19),
-            (TokenKind::Number, 19, 21),
-            (TokenKind::BigNumber, 22, 42),
-            (TokenKind::Symbol, 42, 43),
-            (TokenKind::Bad, 44, 45),
-        ];
-        assert_eq!(rt; tokens.len(), expected.len());
-        for (token, (kind, start, end)) in tokens.iter().zip(expected.iter()) {
-            assert_eq!(rt; token.kind, *kind);
-            assert_eq!(rt; token.start, *start);
-            assert_eq!(rt; token.end, *end);
-        }
-        Ok(())
-    }
-}

@@ -36,30 +36,3 @@ fn last_line_length(text: &[u8]) -> usize
 {
     text.iter().rev().take_while(|byte| **byte != b'\n').count()
 }
-
-#[cfg(test)]
-mod tests {
-    use super::*;
-    use std::test::Fail;
-
-    #[test]
-    fn places_count_lines_and_bytes_from_one(rt: HostRuntime) -> Result<(), Fail> {
-        let text = b"ab\n\n\xc3\xa9 d";
-        let expected = [
-            (0, 1, 1),
-            (1, 1, 2),
-            (2, 1, 3),
-            (3, 2, 1),
-            (4, 3, 1),
-            (7, 3, 4),
-            (8, 3, 5),
-            (99, 3, 5),
-        ];
-        for (at, line, column) in expected.iter() {
-            let place = place_of(text, *at);
-            assert_eq!(rt; place.line, *line);
-            assert_eq!(rt; place.column, *column);
-        }
-        Ok(())
-    }
-}

@@ -4,8 +4,6 @@
 
 mod row_mark;
 mod rows;
-#[cfg(test)]
-mod tests;
 mod words;
 
 pub use row_mark::RowMark;

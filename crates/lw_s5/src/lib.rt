@@ -7,7 +7,5 @@ mod label;
 mod obstacle;
 mod root;
 mod search;
-#[cfg(test)]
-mod tests;
 
 pub use search::search_s5;

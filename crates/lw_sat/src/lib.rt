@@ -10,8 +10,6 @@ mod frame;
 mod grow;
 mod round;
 mod saturation;
-#[cfg(test)]
-mod saturation_tests;
 mod work;
 
 pub use board::Board;

@@ -1,5 +1,0 @@
-use Rattle.lw_pool.specs.Region.{IsLive}
-use Rattle.lw_closure.proofs.build.tests.boxed.Given as goal
-
-abbrev pub invariant-boxes : goal.invariant-boxes
-invariant-boxes l = IsLive l.pool l.form
