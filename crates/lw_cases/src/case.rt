@@ -1,4 +1,4 @@
-use crate::certificates::{copy_line, cut_line, logics_line};
+use crate::certificates::{copy_line, cut_line, logics_line, proof_line};
 use crate::chains::chain_line;
 use crate::closures::closure_line;
 use crate::formulas::{pool_line, print_line, replace_line, tree_line};
@@ -6,7 +6,7 @@ use crate::models::{class_line, facts_line, rows_line, sheet_of, spare_line, tru
 use crate::numbers::number;
 use crate::pools::{boxes_line, doubled_line, released_line, renamed_line};
 use crate::setting::Setting;
-use crate::texts::{read_line, token_line};
+use crate::texts::{chars_line, read_line, token_line};
 use crate::top_call::run_line;
 use crate::unanswered::Unanswered;
 use crate::verdicts::verdicts_line;
@@ -76,6 +76,8 @@ fn of_text(alloc: Global, text: &[u8], verb: &str, rest: &str) -> Result<Vec<u8>
         "replace" => replace_line(alloc, text, rest.as_bytes()),
         "closure" => Ok(closure_line(alloc, logic_of(rest)?, text)?.into_bytes()),
         "copy" => Ok(said(alloc, copy_line(alloc, text)?)?),
+        "proof" => Ok(proof_line(alloc, text)?.into_bytes()),
+        "chars" => Ok(chars_line(alloc, text)?),
         "verdicts" => Ok(verdicts_line(alloc, text)?.into_bytes()),
         "cuts" => Ok(cut_line(alloc, text)?.into_bytes()),
         _ => Err(Unanswered),

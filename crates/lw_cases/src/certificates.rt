@@ -13,6 +13,7 @@ use lw_counter::Answer;
 use lw_decide::decide;
 use lw_formula::Logic;
 use lw_pool::{FormId, Pool};
+use lw_proof::Proof;
 use std::alloc::{AllocError, Global};
 
 /// The logics, in the order in which each is named.
@@ -86,6 +87,22 @@ pub fn copy_line(alloc: Global, text: &[u8]) -> Result<&'static str, Unanswered>
     } else {
         "another"
     })
+}
+
+// The numbers of a copy of the proof.
+fn numbers_of(alloc: Global, proof: &Proof) -> Result<String, AllocError> {
+    let copy = proof.try_clone()?;
+    let (lines, depth, count) = (copy.lines(), copy.depth(), copy.count());
+    format!(in alloc; "{lines} lines, depth {depth}, {count} subproofs")
+}
+
+/// How many lines the text's proof has, how deep it is, and how many subproofs its first step has.
+pub fn proof_line(alloc: Global, text: &[u8]) -> Result<String, Unanswered> {
+    let mut pool = Pool::new(alloc);
+    match read_certificate(alloc, &mut pool, text)?.body {
+        Body::Proved(proof) => Ok(numbers_of(alloc, &proof)?),
+        Body::Refuted(..) => Err(Unanswered),
+    }
 }
 
 // Why the text is no certificate's, if it is none.
