@@ -1,0 +1,4 @@
+pub mod Translations
+pub mod Connectives
+pub mod Intuitionistic
+pub mod Private
