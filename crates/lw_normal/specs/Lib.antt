@@ -1,0 +1,3 @@
+pub mod NegationNormalForm
+pub mod Simplification
+pub mod Private
