@@ -1,3 +1,4 @@
 pub mod NegationNormalForm
 pub mod Simplification
+pub mod Laws
 pub mod Private

@@ -12,5 +12,5 @@ returns c =
     let x = c.args.x in
     let y = c.args.y in
     c.eq.ensures ∙ same_from_decides (eqb x.0 y.0) (same_formula (tree_at ts x) (tree_at ts y))
-    (Decides-like (eqb x.0 y.0) (λ same. ap (λ k. slice_index_or ts k falsum) same) (λ same. ap (λ id. id.0) (c.count-count.ensures.ids x y c.requires.x c.requires.y same)) (Decides-eqb x.0 y.0))
+    (Decides-like (eqb x.0 y.0) (λ same. ap (λ k. slice_index_or ts k falsum) same) (λ same. ap (λ id. id.0) (c.count.ensures.ids x y c.requires.x c.requires.y same)) (Decides-eqb x.0 y.0))
     (same_formula-Decides (tree_at ts x) (tree_at ts y))

@@ -1,0 +1,4 @@
+pub mod TruthTables
+pub mod NormalForms
+pub mod NormalSubformulas
+pub mod SimplifiedFormulas
