@@ -1,1 +1,3 @@
 pub mod FirstConnectives
+pub mod ForcingModels
+pub mod ReflexiveModels

@@ -1,5 +1,5 @@
 -- Intuitionistic logic by its finite models (Kripke 1965): the worlds are states of knowledge, and what is known stays known.
-use Rattle.std.specs.Prelude.{ℕ, ◌<◌, ◌⊎◌, List, ⊤}
+use Rattle.std.specs.Prelude.{ℕ, ◌<◌, ◌⊎◌, List}
 use Rattle.lw_formula.specs.declared.logic.Logic.TheVariants.{S4}
 use Rattle.lw_formula.specs.Formula.{Formula, letter, falsum, verum, neg, conj, disj, impl, equi, nec, poss}
 use Rattle.lw_formula.specs.FiniteModel.{FiniteModel, Sees, HasFact}

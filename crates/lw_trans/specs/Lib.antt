@@ -1,4 +1,5 @@
 pub mod Translations
 pub mod Connectives
 pub mod Intuitionistic
+pub mod Laws
 pub mod Private

@@ -15,15 +15,17 @@ pub enum Connective {
     Top,
 }
 
-/// The place of the connective in the order in which faults name it.
-fn rank(of: Connective) -> u8
-    ensures { result ≡ order.rank of }
-{
-    match of {
-        Connective::Nec => 0,
-        Connective::Poss => 1,
-        Connective::Iff => 2,
-        Connective::Top => 3,
+impl Connective {
+    /// The place of the connective in the order in which faults name it, from 0.
+    fn rank(self) -> u8
+        ensures { result ≡ order.rank self }
+    {
+        match self {
+            Connective::Nec => 0,
+            Connective::Poss => 1,
+            Connective::Iff => 2,
+            Connective::Top => 3,
+        }
     }
 }
 
@@ -34,7 +36,7 @@ pub fn earlier(left: Option<Connective>, right: Option<Connective>) -> Option<Co
     match (left, right) {
         (None, _) => right,
         (_, None) => left,
-        (Some(first), Some(second)) => if rank(first) <= rank(second) {
+        (Some(first), Some(second)) => if first.rank() <= second.rank() {
             left
         } else {
             right
