@@ -2,6 +2,7 @@ use crate::certificates::{copy_line, cut_line, logics_line, proof_line};
 use crate::chains::chain_line;
 use crate::closures::closure_line;
 use crate::formulas::{pool_line, print_line, replace_line, tree_line};
+use crate::functions::{goedel_line, image_line};
 use crate::models::{class_line, facts_line, rows_line, sheet_of, spare_line, truth_line};
 use crate::numbers::number;
 use crate::pools::{boxes_line, doubled_line, released_line, renamed_line};
@@ -29,6 +30,8 @@ pub fn written(setting: &mut Setting, verb: &str, rest: &str) -> Result<Vec<u8>,
         "chain" => Ok(chain_line(setting.alloc, logic_of(rest)?)?.into_bytes()),
         "logics" => logics_line(setting),
         "boxes" | "released" | "doubled" | "renamed" => of_number(setting.alloc, verb, rest),
+        "nnf" | "simplify" | "boxdot" => image_line(setting.alloc, verb, rest.as_bytes()),
+        "goedel" => goedel_line(setting.alloc, rest.as_bytes()),
         "rows" | "facts" | "class" | "truth" | "spare" => of_model(setting, verb, rest),
         _ => of_text(setting.alloc, &setting.text, verb, rest),
     }

@@ -10,6 +10,7 @@ mod disk;
 mod entry;
 mod escapes;
 mod formulas;
+mod functions;
 mod items;
 mod models;
 mod numbers;
