@@ -10,7 +10,7 @@ mod LexemeSteps
 mod TokenTexts
 mod TokensByRule
 mod PrintedTokens
-mod FaultPlaces
+pub mod FaultPlaces
 mod FaultlessTexts
 mod LetterNames
 mod TextLengths
