@@ -6,7 +6,7 @@ use borrow.Author.Count.{below_more}
 use Rattle.lw_read.specs.declared.lexer.Token.{Token}
 use Rattle.lw_read.specs.declared.text_fault.TextFault.{TextFault}
 use Rattle.lw_read.specs.declared.text_fault.TextFault.TheVariants as fault
-use Rattle.lw_read.specs.Tokens.{tokens_of}
+use Rattle.lw_read.specs.Tokens.{tokens_of, AreInOrder}
 use Rattle.lw_read.specs.Places.{nesting_limit, Begins, HasUnfinished, IsFine, AreFine}
 use Rattle.lw_read.specs.Language.{Language, grammar_of, lexemes_in, ReadsIn, IsFaultIn}
 use Rattle.lw_read.specs.Machine.{Machine, run, heights, IsDone, IsReaderOf, IsTaken, Refuses}
@@ -131,3 +131,15 @@ module _ {A T S : Type 0} (L : Language A T) (M : Machine A T S) (reads : IsRead
 -- each token of a text lies within it
 pub token-fits : (text : List ℕ) (i : ℕ) (d : Token) → i < length (tokens_of text) → ((get_or (tokens_of text) i d).start ≤ (get_or (tokens_of text) i d).end) × ((get_or (tokens_of text) i d).end ≤ length text)
 token-fits text i d h = token_within (tokens_of text) 0 (length text) i d (tokens-order text) h
+
+next-start : (ts : List Token) (from end i : ℕ) (d e : Token) → AreInOrder from ts end → suc i < length ts → (get_or ts i d).end ≤ (get_or ts (suc i) e).start
+next-start [] from end i d e o h = absurd (omega arith)
+next-start (t ∷ []) from end i d e o h = absurd (omega arith)
+next-start (t ∷ u ∷ us) from end zero d e o h = o.2.0
+next-start (t ∷ u ∷ us) from end (suc i) d e o h = next-start (u ∷ us) t.end end i d e o.2 (omega arith)
+
+-- each token of a text begins behind the one before it
+pub token-next : (text : List ℕ) (i : ℕ) (d e : Token) → i + 1 < length (tokens_of text) → (get_or (tokens_of text) i d).end ≤ (get_or (tokens_of text) (i + 1) e).start
+token-next text i d e h =
+    let one : suc i ≡ i + 1 = omega arith in
+    subst (λ n. (get_or (tokens_of text) i d).end ≤ (get_or (tokens_of text) n e).start) one (next-start (tokens_of text) 0 (length text) i d e (tokens-order text) (omega arith))

@@ -1,4 +1,4 @@
-ghost use Rattle.std.specs.Prelude.{◌≡◌, ◌≢◌, ℕ, ◌≤◌, List, length, IfOk, IfErr, IfSome, IfNone};
+ghost use Rattle.std.specs.Prelude.{◌≡◌, ◌≢◌, ℕ, ◌≤◌, List, length, IfOk, IfErr, IfSome, IfNone, ⊤};
 ghost use Rattle.lw_read.specs.Tokens.{tokens_of};
 ghost use Rattle.lw_read.specs.Places.{nesting_limit};
 ghost use Rattle.lw_read.specs.Language.{Language, ReadsIn, IsFaultIn};
@@ -32,12 +32,17 @@ pub trait TextReader: Drop {
 
     ghost parsed: { Self.Tree → Parsed };
 
+    // what the reader knows of the text up to a byte, as the line there
+    ghost knows: { Self → List ℕ → ℕ → Type 0 } = { λ _ _ _. ⊤ };
+
     /// Takes a token of the text, or says what is wrong with it. That too many constructs are unfinished need not be
     /// said: `read_text` tests the height behind each token.
     fn take(self, alloc: Global, text: &[u8], token: Token) -> Result<Self, TextFault>
         requires start { token.start ≤ token.end }
         requires within { token.end ≤ length text.now }
         requires low { machine.height (state self) ≤ nesting_limit }
+        requires known { (at : ℕ) × (at ≤ token.start) × knows self text.now at }
+        ensures known { IfOk result (λ next. knows next text.now token.end) }
         ensures ok { IfOk result (λ next.
             let t = language.lexeme_of text.now token in
             let s = machine.step t (state self) in
@@ -61,6 +66,8 @@ fn taken<R: TextReader>(alloc: Global, text: &[u8], token: Token, reader: R) -> 
     requires start { token.start ≤ token.end }
     requires within { token.end ≤ length text.now }
     requires low { R.machine.height (R.state reader) ≤ nesting_limit }
+    requires known { (at : ℕ) × (at ≤ token.start) × R.knows reader text.now at }
+    ensures known { IfOk result (λ next. R.knows next text.now token.end) }
     ensures ok { IfOk result (λ next.
         let t = R.language.lexeme_of text.now token in
         let s = R.machine.step t (R.state reader) in
@@ -84,6 +91,7 @@ fn read_tokens<R: TextReader>(
 ) -> Result<R::Tree, TextFault>
     requires tokens { tokens.now ≡ tokens_of text.now }
     requires start { R.state reader ≡ R.machine.start }
+    requires known { R.knows reader text.now 0 }
     requires reads { IsReaderOf R.language R.machine }
     ensures tree { IfOk result (λ tree. ReadsIn R.language text.now (R.parsed tree)) }
     ensures fault { IfErr result (λ fault. IsFaultIn R.language text.now fault) }
@@ -101,6 +109,7 @@ fn read_tokens<R: TextReader>(
 /// within one token `Unexpected` comes before `TooLong`, and `TooLong` before `Nested`. The reader is at its start.
 pub fn read_text<R: TextReader>(alloc: Global, text: &[u8], reader: R) -> Result<R::Tree, TextFault>
     requires start { R.state reader ≡ R.machine.start }
+    requires known { R.knows reader text.now 0 }
     requires reads { IsReaderOf R.language R.machine }
     ensures tree { IfOk result (λ tree. ReadsIn R.language text.now (R.parsed tree)) }
     ensures fault { IfErr result (λ fault. IsFaultIn R.language text.now fault) }
