@@ -126,14 +126,16 @@ pub fn check_file<S: Store, K: Sink>(
     store: &mut S,
     sink: &mut K,
 ) -> u8
-    ensures carried_out { (result ≡ 0) ⊎ (result ≡ 1) → Answers (Command.Check file.now) (S.holds store.old) (K.written sink.old) (K.written sink.new) result }
+    ensures carried_out { (result ≡ 0) ⊎ (result ≡ 1) →
+        Answers (Command.Check file.now) (S.holds store.old) (K.written sink.old) (K.written sink.new) result }
     ensures no_refusal { result ≢ 2 }
     ensures store_failed { result ≡ 3 → Rose (S.faults store.old) (S.faults store.new) }
     ensures store_unsure { result ≡ 3 → IsUnsureOf (S.sure store.old) (S.holds store.old) (Command.Check file.now) }
     ensures store_unwritten { result ≡ 3 → K.written sink.new ≡ K.written sink.old }
     ensures sink_failed { result ≡ 4 → Rose (K.faults sink.old) (K.faults sink.new) }
     ensures sink_part { result ≡ 4 → AnswersPart (Command.Check file.now) (S.holds store.old) (K.written sink.old) (K.written sink.new) }
-    ensures no_memory { result ≡ 5 → (K.written sink.new ≡ K.written sink.old) ⊎ AnswersPart (Command.Check file.now) (S.holds store.old) (K.written sink.old) (K.written sink.new) }
+    ensures no_memory { result ≡ 5 → (K.written sink.new ≡ K.written sink.old)
+        ⊎ AnswersPart (Command.Check file.now) (S.holds store.old) (K.written sink.old) (K.written sink.new) }
     ensures no_other { result ≤ 5 }
 {
     let finding = match finding_file(alloc, file, store) {

@@ -87,14 +87,17 @@ pub fn prove<S: Store, K: Sink>(
     store: &mut S,
     sink: &mut K,
 ) -> u8
-    ensures carried_out { (result ≡ 0) ⊎ (result ≡ 1) → Answers (Command.Prove logic file.now) (S.holds store.old) (K.written sink.old) (K.written sink.new) result }
+    ensures carried_out { (result ≡ 0) ⊎ (result ≡ 1) →
+        Answers (Command.Prove logic file.now) (S.holds store.old) (K.written sink.old) (K.written sink.new) result }
     ensures no_refusal { result ≢ 2 }
     ensures store_failed { result ≡ 3 → Rose (S.faults store.old) (S.faults store.new) }
     ensures store_unsure { result ≡ 3 → IsUnsureOf (S.sure store.old) (S.holds store.old) (Command.Prove logic file.now) }
     ensures store_unwritten { result ≡ 3 → K.written sink.new ≡ K.written sink.old }
     ensures sink_failed { result ≡ 4 → Rose (K.faults sink.old) (K.faults sink.new) }
-    ensures sink_part { result ≡ 4 → AnswersPart (Command.Prove logic file.now) (S.holds store.old) (K.written sink.old) (K.written sink.new) }
-    ensures no_memory { result ≡ 5 → (K.written sink.new ≡ K.written sink.old) ⊎ AnswersPart (Command.Prove logic file.now) (S.holds store.old) (K.written sink.old) (K.written sink.new) }
+    ensures sink_part { result ≡ 4 →
+        AnswersPart (Command.Prove logic file.now) (S.holds store.old) (K.written sink.old) (K.written sink.new) }
+    ensures no_memory { result ≡ 5 → (K.written sink.new ≡ K.written sink.old)
+        ⊎ AnswersPart (Command.Prove logic file.now) (S.holds store.old) (K.written sink.old) (K.written sink.new) }
     ensures no_other { result ≤ 5 }
 {
     let answer = match answer_file(alloc, logic, file, store) {

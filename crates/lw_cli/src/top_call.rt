@@ -25,7 +25,8 @@ pub fn workbench<S: Store, K: Sink>(
     sink: &mut K,
 ) -> u8
     // What was written is the whole of an output that the command allows, with its status.
-    ensures carried_out { (result ≡ 0) ⊎ (result ≡ 1) → AsksFor (map string_bytes words.now) (λ command. Answers command (S.holds store.old) (K.written sink.old) (K.written sink.new) result) }
+    ensures carried_out { (result ≡ 0) ⊎ (result ≡ 1) → AsksFor (map string_bytes words.now) (λ command.
+        Answers command (S.holds store.old) (K.written sink.old) (K.written sink.new) result) }
 
     ensures no_command { result ≡ 2 ↔ (command_of (map string_bytes words.now) ≡ None) }
     ensures nothing_written { result ≡ 2 → K.written sink.new ≡ K.written sink.old }
@@ -37,8 +38,11 @@ pub fn workbench<S: Store, K: Sink>(
 
     // After a fault of the sink, or without memory, what was written is a first part of such an output.
     ensures sink_failed { result ≡ 4 → Rose (K.faults sink.old) (K.faults sink.new) }
-    ensures sink_part { result ≡ 4 → AsksFor (map string_bytes words.now) (λ command. AnswersPart command (S.holds store.old) (K.written sink.old) (K.written sink.new)) }
-    ensures no_memory { result ≡ 5 → (K.written sink.new ≡ K.written sink.old) ⊎ AsksFor (map string_bytes words.now) (λ command. AnswersPart command (S.holds store.old) (K.written sink.old) (K.written sink.new)) }
+    ensures sink_part { result ≡ 4 → AsksFor (map string_bytes words.now) (λ command.
+        AnswersPart command (S.holds store.old) (K.written sink.old) (K.written sink.new)) }
+    ensures no_memory { result ≡ 5 → (K.written sink.new ≡ K.written sink.old)
+        ⊎ AsksFor (map string_bytes words.now) (λ command.
+        AnswersPart command (S.holds store.old) (K.written sink.old) (K.written sink.new)) }
 
     ensures no_other { result ≤ 5 }
 {
