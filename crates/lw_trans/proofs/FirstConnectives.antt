@@ -5,13 +5,13 @@ use Rattle.std.proofs.lemmas.Bool.{cond_both, leb-true, leb-false}
 use Rattle.lw_formula.specs.Formula.{Formula, letter, falsum, verum, neg, conj, disj, impl, equi, nec, poss}
 use Rattle.lw_trans.specs.declared.connective.Connective.{Connective}
 use Rattle.lw_trans.specs.declared.connective.Connective.TheVariants.{Nec, Poss, Iff, Top}
-use Rattle.lw_trans.specs.Connectives.{StandsIn, IsIntuitionistic, IsFirst, rank}
+use Rattle.lw_trans.specs.Connectives.{StandsIn, IsIntuitionistic, IsFirst, naming_place}
 use Rattle.lw_trans.specs.Private.FirstConnective.{earlier, first_of}
 
 -- the connective is the first that has the property, or none has it
 abbrev pub FirstWith : (Connective → Type 0) → Option Connective → Type 0
 FirstWith P None = (what : Connective) → ¬ P what
-FirstWith P (Some what) = P what × ((other : Connective) → P other → rank what ≤ rank other)
+FirstWith P (Some what) = P what × ((other : Connective) → P other → naming_place what ≤ naming_place other)
 
 -- the earlier of the first with one property and the first with another is the first with either
 FirstWith-earlier : (P Q : Connective → Type 0) (x y : Option Connective) → FirstWith P x → FirstWith Q y → FirstWith (λ what. P what ⊎ Q what) (earlier x y)
@@ -19,13 +19,13 @@ FirstWith-earlier P Q None None p q = λ what h. ⊎_elim (p what) (q what) h
 FirstWith-earlier P Q None (Some b) p q = (inr q.0, λ other h. ⊎_elim (λ l. absurd (p other l)) (λ r. q.1 other r) h)
 FirstWith-earlier P Q (Some a) None p q = (inl p.0, λ other h. ⊎_elim (λ l. p.1 other l) (λ r. absurd (q other r)) h)
 FirstWith-earlier P Q (Some a) (Some b) p q =
-    cond_both (nat_le (rank a) (rank b)) (Some a) (Some b) (FirstWith (λ what. P what ⊎ Q what))
-    (λ yes. let l = leb-true (rank a) (rank b) yes in (inl p.0, λ other h. ⊎_elim (λ left. p.1 other left) (λ right. let far = q.1 other right in omega (arith, l, far)) h))
-    (λ no. let l = leb-false (rank a) (rank b) no in (inr q.0, λ other h. ⊎_elim (λ left. let far = p.1 other left in omega (arith, l, far)) (λ right. q.1 other right) h))
+    cond_both (nat_le (naming_place a) (naming_place b)) (Some a) (Some b) (FirstWith (λ what. P what ⊎ Q what))
+    (λ yes. let l = leb-true (naming_place a) (naming_place b) yes in (inl p.0, λ other h. ⊎_elim (λ left. p.1 other left) (λ right. let far = q.1 other right in omega (arith, l, far)) h))
+    (λ no. let l = leb-false (naming_place a) (naming_place b) no in (inr q.0, λ other h. ⊎_elim (λ left. let far = p.1 other left in omega (arith, l, far)) (λ right. q.1 other right) h))
 
 -- a connective alone
 FirstWith-alone : (what : Connective) → FirstWith (λ other. other ≡ what) (Some what)
-FirstWith-alone what = (refl, λ other e. let same = ap rank e in omega (arith, same))
+FirstWith-alone what = (refl, λ other e. let same = ap naming_place e in omega (arith, same))
 
 first_of-FirstWith : (a : Formula) → FirstWith (λ what. StandsIn what a) (first_of a)
 first_of-FirstWith (letter p) = λ what h. h

@@ -24,16 +24,16 @@ abbrev pub IsIntuitionistic : Formula → Type 0
 IsIntuitionistic a = (what : Connective) → ¬ StandsIn what a
 
 -- the order in which the four are named: `box`, `dia`, `<->`, `true`
-abbrev pub rank : Connective → ℕ
-rank Nec = 0
-rank Poss = 1
-rank Iff = 2
-rank Top = 3
+abbrev pub naming_place : Connective → ℕ
+naming_place Nec = 0
+naming_place Poss = 1
+naming_place Iff = 2
+naming_place Top = 3
 
 -- the connective is the first in this order that stands in the formula
 pub record IsFirst (what : Connective) (a : Formula) : Type 0 where
   pub stands : StandsIn what a
-  pub first : (other : Connective) → StandsIn other a → rank what ≤ rank other
+  pub first : (other : Connective) → StandsIn other a → naming_place what ≤ naming_place other
 
 -- the fault names what makes the formula none of intuitionistic logic, or is want of memory
 abbrev pub IsFaultOf : Formula → TransFault → Type 0

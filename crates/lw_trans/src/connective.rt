@@ -17,8 +17,8 @@ pub enum Connective {
 
 impl Connective {
     /// The place of the connective in the order in which faults name it, from 0.
-    fn rank(self) -> u8
-        ensures { result ≡ order.rank self }
+    fn naming_place(self) -> u8
+        ensures { result ≡ order.naming_place self }
     {
         match self {
             Connective::Nec => 0,
@@ -36,7 +36,7 @@ pub fn earlier(left: Option<Connective>, right: Option<Connective>) -> Option<Co
     match (left, right) {
         (None, _) => right,
         (_, None) => left,
-        (Some(first), Some(second)) => if first.rank() <= second.rank() {
+        (Some(first), Some(second)) => if first.naming_place() <= second.naming_place() {
             left
         } else {
             right

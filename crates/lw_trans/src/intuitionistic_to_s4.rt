@@ -1,7 +1,9 @@
-ghost use Rattle.std.specs.Prelude.{◌≡◌, IfOk, IfErr, OnOk, ⊤};
+ghost use Rattle.std.specs.Prelude.{◌≡◌, IfOk, IfErr, IsErrOf, OnOk, ⊤};
 ghost use Rattle.lw_formula.specs.Formula.{impl, neg, nec};
 ghost use Rattle.lw_pool.specs.Region.{tree_at, IsLive, IsAt, Grows};
 ghost use Rattle.lw_pool.proofs.RegionGrowth.{IsAt-grows};
+ghost use Rattle.lw_trans.specs.declared.connective.Connective.{Connective};
+ghost use Rattle.lw_trans.specs.declared.fault.TransFault.TheVariants.{NotIntuitionistic};
 ghost use Rattle.lw_trans.specs.Translations as translations;
 ghost use Rattle.lw_trans.specs.Connectives.{IsIntuitionistic, IsFaultOf};
 ghost use Rattle.lw_trans.specs.Private.FirstConnective.{first_of};
@@ -14,12 +16,13 @@ use std::alloc::{AllocError, Global};
 /// The id of Gödel's translation of an intuitionistic formula, with `box` before each letter, each `->` and each `~`.
 /// It is valid in S4 exactly where the formula is intuitionistically valid. `NotIntuitionistic` comes exactly where the
 /// formula has `box`, `dia`, `<->` or `true`, and names the first of them in this order; `Memory` comes for want of
-/// memory alone. After either answer the pool has what it had, and perhaps formulas above.
+/// memory alone. After any answer the pool has what it had, and perhaps formulas above: none after `NotIntuitionistic`.
 pub fn goedel(alloc: Global, pool: &mut Pool, id: FormId) -> Result<FormId, TransFault>
     requires { IsLive pool.old id }
     ensures at { IfOk result (IsAt pool.new (translations.goedel (tree_at pool.old id))) }
     ensures intuitionistic { OnOk result (IsIntuitionistic (tree_at pool.old id)) }
     ensures refused { IfErr result (IsFaultOf (tree_at pool.old id)) }
+    ensures unchanged { (what : Connective) → IsErrOf result (NotIntuitionistic what) → pool.new ≡ pool.old }
     ensures grows { Grows pool.old pool.new }
 {
     if let Some(what) = first_connective(alloc, pool, id)? {

@@ -3,14 +3,15 @@ use Rattle.std.specs.Prelude.{Option, Some, None, nat_le, if◌then◌else◌}
 use Rattle.lw_formula.specs.Formula.{Formula, letter, falsum, verum, neg, conj, disj, impl, equi, nec, poss}
 use Rattle.lw_trans.specs.declared.connective.Connective.{Connective}
 use Rattle.lw_trans.specs.declared.connective.Connective.TheVariants.{Nec, Poss, Iff, Top}
-use Rattle.lw_trans.specs.Connectives.{rank}
+use Rattle.lw_trans.specs.Connectives.{naming_place}
 
 -- the earlier of the two, where there are two
 abbrev pub earlier : Option Connective → Option Connective → Option Connective
 earlier None right = right
 earlier (Some left) None = Some left
-earlier (Some left) (Some right) = if nat_le (rank left) (rank right) then Some left else Some right
+earlier (Some left) (Some right) = if nat_le (naming_place left) (naming_place right) then Some left else Some right
 
+-- the first of the four that stands in the formula
 abbrev pub first_of : Formula → Option Connective
 first_of (letter p) = None
 first_of falsum = None
