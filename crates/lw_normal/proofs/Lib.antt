@@ -1,4 +1,4 @@
 pub mod TruthTables
-pub mod NormalForms
+pub mod NormalFormTruth
 pub mod NormalSubformulas
 pub mod SimplifiedFormulas

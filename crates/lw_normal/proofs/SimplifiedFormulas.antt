@@ -9,7 +9,7 @@ use Rattle.lw_formula.specs.Truth.{IsTrueAt, true_at}
 use Rattle.lw_formula.proofs.SameFormulas.{same_formula-Decides}
 use Rattle.lw_normal.specs.Simplification.{not_of, and_of, or_of, imp_of, iff_of, box_of, dia_of, simplify}
 use Rattle.lw_normal.proofs.TruthTables as table
-use Rattle.lw_normal.proofs.NormalForms.{true_alike}
+use Rattle.lw_normal.proofs.NormalFormTruth.{true_alike}
 
 -- the result is true where the form is, and has no more nodes
 record IsFair (m : FiniteModel) (form result : Formula) : Type 0 where

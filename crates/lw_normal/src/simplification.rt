@@ -7,9 +7,11 @@ ghost use Rattle.lw_normal.specs.Simplification as simplified;
 use lw_pool::{FormId, Node, Pool, Step, fold};
 use std::alloc::{AllocError, Global};
 
-/// The id of the simplified formula, in which no constant is an operand, `~~` stands nowhere, and no `&`, `v`, `->` or
-/// `<->` is between a formula and itself. It is true at the same worlds of every model, and has no more nodes. It fails
-/// for want of memory alone. After either answer the pool has what it had, and perhaps formulas above.
+/// The id of the simplified formula, from the inside out: `~`, `&`, `v`, `->` or `<->` gives way where an operand is a
+/// constant, `~` also before another `~`, `box` before `true` and `dia` before `false`, the four between two operands also
+/// where both are one formula, and `&` and `v` where one operand is `~` of the other. The simplified formula is true at
+/// the same worlds of every model, and has no more nodes. It fails for want of memory alone. After either answer the
+/// pool has what it had, and perhaps formulas above.
 pub fn simplify(alloc: Global, pool: &mut Pool, id: FormId) -> Result<FormId, AllocError>
     requires { IsLive pool.old id }
     ensures at { IfOk result (IsAt pool.new (simplified.simplify (tree_at pool.old id))) }

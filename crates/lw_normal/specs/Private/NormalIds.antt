@@ -12,6 +12,7 @@ use Rattle.lw_normal.specs.NegationNormalForm.{nnf_under}
 abbrev pub AreNormalForms : List Formula → Formula → NormalForms → Type 0
 AreNormalForms ts a forms = IsAt ts (nnf_under T a) forms.own × IsAt ts (nnf_under F a) forms.negated
 
+-- ids keep their formulas
 pub AreNormalForms-grows : (old new : List Formula) (a : Formula) (forms : NormalForms) → Grows old new → AreNormalForms old a forms → AreNormalForms new a forms
 AreNormalForms-grows old new a forms grows at =
     (IsAt-grows old new (nnf_under T a) forms.own grows at.0, IsAt-grows old new (nnf_under F a) forms.negated grows at.1)

@@ -1,5 +1,5 @@
 use Rattle.lw_formula.specs.declared.sign.Sign.TheVariants.{T}
-use Rattle.lw_normal.proofs.NormalForms.{nnf_under-Nnf}
+use Rattle.lw_normal.proofs.NormalFormTruth.{nnf_under-Nnf}
 use Rattle.lw_normal.proofs.laws.nnf_is_nnf.Goals as goal
 
 pub returns : goal.returns

@@ -1,4 +1,4 @@
-use Rattle.lw_normal.proofs.NormalForms.{nnf-IsTrueAt}
+use Rattle.lw_normal.proofs.NormalFormTruth.{nnf-IsTrueAt}
 use Rattle.lw_normal.proofs.laws.nnf_keeps_truth.Goals as goal
 
 pub returns : goal.returns
