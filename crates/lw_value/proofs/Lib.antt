@@ -1,0 +1,2 @@
+pub mod AssignedValues
+pub mod LoadsJoined

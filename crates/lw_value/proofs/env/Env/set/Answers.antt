@@ -1,0 +1,6 @@
+use Rattle.std.proofs.Common.{rules, arith}
+use Rattle.lw_value.proofs.AssignedValues.{put-assigned}
+use Rattle.lw_value.proofs.env.Env.set.Goals as goal
+
+pub returns-clause-set : goal.returns-clause-set
+returns-clause-set c = Prim.grind (rules, arith, put-assigned c.self.inside.values.entries c.args.name.now c.args.value)

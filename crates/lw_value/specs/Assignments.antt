@@ -1,0 +1,17 @@
+-- The variables of a script: names with values, in order of first assignment.
+use Rattle.std.specs.Prelude.{ℕ, List, [], ◌∷◌, Option, None, Some, if◌then◌else◌, AllPairs, ◌≢◌}
+use Rattle.std.specs.Str.{bytes_eq}
+
+-- the value that the name has, if it has one
+abbrev pub value_at : {V : Type 0} → List (List ℕ × V) → List ℕ → Option V
+value_at [] x = None
+value_at (p ∷ ps) x = if bytes_eq x p.0 then Some p.1 else value_at ps x
+
+-- the variables after the name is given the value: a name that is there keeps its place, a new one comes last
+abbrev pub put : {V : Type 0} → List (List ℕ × V) → List ℕ → V → List (List ℕ × V)
+put [] x v = (x, v) ∷ []
+put (p ∷ ps) x v = if bytes_eq x p.0 then (p.0, v) ∷ ps else p ∷ put ps x v
+
+-- no name stands twice
+abbrev pub HaveOwnNames : {V : Type 0} → List (List ℕ × V) → Type 0
+HaveOwnNames ps = AllPairs (λ p q. p.0 ≢ q.0) ps

@@ -1,0 +1,3 @@
+pub mod ValueCode
+pub mod KeptWeight
+pub mod LighterItems

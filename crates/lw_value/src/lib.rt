@@ -1,0 +1,9 @@
+//! Values and variables of scripts: what an expression gives, its weight, and the variables in order of first
+//! assignment.
+#![tactic(auto)]
+
+mod env;
+mod value;
+
+pub use env::Env;
+pub use value::{Items, Value, weight};
