@@ -20,6 +20,7 @@ pub use construct::{Construct, end_tighter};
 pub use fault::ReadFault;
 pub use laws::{letters_are_names, one_answer, one_fault, one_tree, reads_back, token_rule};
 pub use lexer::{Token, TokenKind, tokens};
+pub use measure::text_length;
 pub use place::{Place, place_of};
 pub use pool_printer::{LONGEST_TEXT, print_formula, write_formula};
 pub use print_fault::PrintFault;

@@ -1,2 +1,4 @@
 pub mod AssignedValues
+pub mod LengthsAdded
 pub mod LoadsJoined
+pub mod ValuesWaiting

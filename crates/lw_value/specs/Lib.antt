@@ -1,5 +1,6 @@
 pub mod Values
 pub mod Certified
 pub mod Views
+pub mod ValueTexts
 pub mod Assignments
 pub mod Private

@@ -1,3 +1,4 @@
 pub mod ValueCode
 pub mod KeptWeight
 pub mod LighterItems
+pub mod LengthsLeft

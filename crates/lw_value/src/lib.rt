@@ -3,7 +3,9 @@
 #![tactic(auto)]
 
 mod env;
+mod length;
 mod value;
 
 pub use env::Env;
+pub use length::measured;
 pub use value::{Items, Value, weight};

@@ -1,0 +1,73 @@
+ghost use Rattle.std.specs.Prelude.{◌≡◌, ◌+◌, ◌-◌, ◌*◌, ◌++◌, length, min, map, IfOk, OnOk, IfSome, IfNone, [], ◌<◌};
+ghost use Rattle.std.specs.Fmt.{decimal};
+ghost use Rattle.lw_value.specs.Values.{AreLive, seen};
+ghost use Rattle.lw_value.specs.ValueTexts.{measure_of, truth_text};
+ghost use Rattle.lw_value.specs.Views.{value_of};
+ghost use Rattle.lw_value.specs.Private.LengthsLeft.{own_length, values_under, items_of};
+
+use crate::value::Value;
+use lw_pool::Pool;
+use lw_read::{LONGEST_TEXT, text_length};
+use std::alloc::{AllocError, Global};
+
+/// The measured length of the value, or 1,048,577 where it is greater: in bytes, that of its text, but a certificate,
+/// inside lists too, is measured by its formula's text. Shared formulas are measured once, and no further item is looked
+/// at once the length is too great. It fails for want of memory alone.
+pub fn measured(alloc: Global, pool: &Pool, value: &Value) -> Result<usize, AllocError>
+    requires { AreLive pool.now (value_of value.now) }
+    ensures { IfOk result (λ len. len ≡ min (measure_of (seen pool.now (value_of value.now))) (LONGEST_TEXT + 1)) }
+{
+    let mut left = Vec::new(alloc);
+    left.push(value)?;
+    let mut total: usize = 0;
+    while let Some(value) = left.pop() {
+        total = total.saturating_add(own_length(alloc, pool, value)?);
+        if total > LONGEST_TEXT {
+            return Ok(LONGEST_TEXT + 1);
+        }
+        push_items(value, &mut left)?;
+    }
+    Ok(total)
+}
+
+/// The length of the value's text without its items', or the greatest `usize` where it is longer.
+fn own_length(alloc: Global, pool: &Pool, value: &Value) -> Result<usize, AllocError>
+    requires { AreLive pool.now (value_of value.now) }
+    ensures { IfOk result (λ len. len ≡ min (own_length (seen pool.now (value_of value.now))) usize.MAX) }
+{
+    match value {
+        Value::Formula(id) => text_length(alloc, pool, *id),
+        Value::Truth(truth) => Ok(truth_text(*truth).len()),
+        Value::Number(number) => Ok(format!(in alloc; "{number}")?.len()),
+        Value::Text(text) => Ok(text.as_bytes().len()),
+        Value::Items(items) => Ok(
+            items
+                .count()
+                .saturating_sub(1)
+                .saturating_mul(2)
+                .saturating_add(2),
+        ),
+        Value::Logic(logic) => Ok(logic.word().len()),
+        Value::Certificate(certificate) => text_length(alloc, pool, certificate.formula),
+        Value::Nothing => Ok(4),
+    }
+}
+
+/// The word that stands for the truth value.
+fn truth_text(truth: bool) -> &'static str
+    ensures { result.now ≡ truth_text truth }
+{
+    if truth { "yes" } else { "no" }
+}
+
+/// Puts the items, if it is a list, behind what is left.
+fn push_items<'a>(value: &'a Value, left: &mut Vec<&'a Value>) -> Result<(), AllocError>
+    ensures { OnOk result (values_under left.new.items ≡ values_under left.old.items ++ items_of (value_of value.now)) }
+{
+    if let Value::Items(items) = value {
+        for item in items.as_slice() {
+            left.push(item)?;
+        }
+    }
+    Ok(())
+}
