@@ -1,5 +1,5 @@
 ghost use Rattle.std.specs.Prelude.{◌≡◌, [], OnOk, OnErr};
-ghost use Rattle.lw_value.specs.Assignments.{value_at, put, HaveOwnNames};
+ghost use Rattle.lw_value.specs.Assignments.{value_at, put};
 ghost use Rattle.lw_value.specs.Views.{value_of, value_under};
 
 use crate::value::Value;

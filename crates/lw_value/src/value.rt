@@ -64,7 +64,8 @@ impl Model for Items {
     ghost size_decreases = { λ a h. deep_le-load a };
 }
 
-/// Items are let go of one by one, whatever stands in them, so that no list is too deep for the machine's stack.
+/// Items are let go of one by one, whatever stands in them, so that a deep list takes no more of the machine's stack than
+/// a flat one while there is memory for those that wait.
 impl Drop for Items {
     #[cycle(release)]
     fn drop(self) {

@@ -7,8 +7,8 @@ use Rattle.lw_formula.specs.Formula.{Formula}
 use Rattle.lw_pool.specs.declared.id.FormId.{FormId}
 use Rattle.lw_read.specs.Text.{text_of}
 use Rattle.lw_value.specs.declared.value.Value.{Value}
-use Rattle.lw_value.specs.Values.{Val, Vals, vals, weights, seen, AreLive, formula, truth, number, text, items, logic, certificate, naught, empty, item}
-use Rattle.lw_value.specs.ValueTexts.{truth_text, count_of, measure_of, total_of}
+use Rattle.lw_value.specs.Values.{Val, Vals, seen, AreLive, formula, truth, number, text, items, logic, certificate, naught, empty, item}
+use Rattle.lw_value.specs.ValueTexts.{truth_text, count_of, measure_of}
 use Rattle.lw_value.specs.Views.{value_of}
 
 -- the length without that of the items

@@ -1,4 +1,4 @@
-use Rattle.std.proofs.Common.{rules, arith}
+use Rattle.std.proofs.Common.{arith}
 use Rattle.lw_value.proofs.ValuesWaiting.{live-under, live-kept, load-falls, length-after, length-before}
 use Rattle.lw_value.proofs.length.measured.Goals as goal
 

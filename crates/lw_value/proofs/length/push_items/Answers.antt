@@ -1,4 +1,4 @@
-use Rattle.std.proofs.Common.{rules, arith, ap, ◌≡◌, ◌∙◌, ◌++◌, map, take}
+use Rattle.std.proofs.Common.{ap, ◌≡◌, ◌∙◌, ◌++◌, map, take}
 use Rattle.std.proofs.lemmas.List.{take_all}
 use Rattle.lw_value.specs.Views.{value_of}
 use Rattle.lw_value.specs.Private.LengthsLeft.{values_under}
