@@ -1,0 +1,10 @@
+mod ExpressionsAccepted
+mod ScriptsAccepted
+mod ExpressionsSound
+mod ScriptsSound
+mod ScriptsCompleted
+mod ExpressionsCounted
+mod ScriptsCounted
+mod ScriptReader
+mod FirstScriptFaults
+mod ScriptLists

@@ -1,0 +1,30 @@
+-- The functions of scripts: the word of each, and how many arguments it takes.
+use Rattle.std.specs.Prelude.{ℕ, List, Option, Some, None, if◌then◌else◌, codes}
+use Rattle.std.specs.Str.{bytes_eq}
+use Rattle.lw_ast.specs.declared.function.Function.{Function}
+use Rattle.lw_ast.specs.declared.function.Function.TheVariants.{Provable, Certificate, Substitute, Vars, Depth, Count, Length, Item, Append}
+
+-- how many arguments the function takes
+abbrev pub arity : Function → ℕ
+arity Provable = 2
+arity Certificate = 2
+arity Substitute = 3
+arity Vars = 1
+arity Depth = 1
+arity Count = 1
+arity Length = 1
+arity Item = 2
+arity Append = 2
+
+-- the function that the word stands for, if it is the word of one
+unfoldable pub function_of : List ℕ → Option Function
+function_of word =
+    if bytes_eq word (codes "provable") then Some Provable else
+    if bytes_eq word (codes "certificate") then Some Certificate else
+    if bytes_eq word (codes "substitute") then Some Substitute else
+    if bytes_eq word (codes "vars") then Some Vars else
+    if bytes_eq word (codes "depth") then Some Depth else
+    if bytes_eq word (codes "count") then Some Count else
+    if bytes_eq word (codes "length") then Some Length else
+    if bytes_eq word (codes "item") then Some Item else
+    if bytes_eq word (codes "append") then Some Append else None

@@ -1,0 +1,16 @@
+//! Scripts as texts: each text has exactly one script, or exactly one fault at its line and column.
+#![tactic(auto)]
+
+mod expr;
+mod fault;
+mod function;
+mod laws;
+mod operator;
+mod script;
+
+pub use expr::{Expr, Exprs, Terms};
+pub use fault::{ScriptFault, SyntaxWhy};
+pub use function::Function;
+pub use laws::{one_script, one_script_answer, one_script_fault};
+pub use operator::{Op, Relation};
+pub use script::{Block, Script, Stmt, StmtKind};
