@@ -7,7 +7,8 @@ use Rattle.lw_read.proofs.StackedConstructs as stacked
 use Rattle.lw_read.proofs.StackedConstructs.{Ends-more, reduce-stays, above, above-above, above-suc, above-append, above-prefix, above-infix, above-closed, above-brackets, above-next}
 use Rattle.lw_ast.specs.declared.operator.Op.{Op}
 use Rattle.lw_ast.specs.declared.function.Function.{Function}
-use Rattle.lw_ast.specs.Trees.{Series, Expression, chained, list, call, Expressions, none, joined, put, count, Operands, no_more, chained_up, add, sign_count}
+use Rattle.lw_ast.specs.declared.operator.Series.{Series}
+use Rattle.lw_ast.specs.Trees.{Expression, chained, list, call, Expressions, none, joined, put, count, Operands, no_more, chained_up, add, sign_count}
 use Rattle.lw_ast.specs.ScriptLexemes.{ScriptLexeme, Between, Compare, Chained, CloseList}
 use Rattle.lw_ast.specs.Functions.{arity}
 use Rattle.lw_ast.specs.ScriptGrammar.{link_level, chain_level, Reads, atom, script_variable, signed_operand, denial, linking, comparison, chaining, bracketed, empty_list, listed, called, Terms, last, next, Items, last_item, next_item, Arguments, last_argument, next_argument, unfinished, unfinished_terms, unfinished_items, unfinished_arguments}

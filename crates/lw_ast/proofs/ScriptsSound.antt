@@ -5,7 +5,9 @@ use Rattle.lw_read.specs.Constructs.{ended}
 use Rattle.lw_ast.specs.declared.operator.Op.{Op}
 use Rattle.lw_ast.specs.declared.function.Function.{Function}
 use Rattle.lw_ast.specs.declared.function.Function.TheVariants as function
-use Rattle.lw_ast.specs.Trees.{Series, Sum, Product, Expression, chained, list, call, Expressions, none, more, joined, put, count, no_more, signed, print, Statement, at, Statements, over, then, followed, behind}
+use Rattle.lw_ast.specs.declared.operator.Series.{Series}
+use Rattle.lw_ast.specs.declared.operator.Series.TheVariants.{Sum, Product}
+use Rattle.lw_ast.specs.Trees.{Expression, chained, list, call, Expressions, none, more, joined, put, count, no_more, signed, print, Statement, at, Statements, over, then, followed, behind}
 use Rattle.lw_ast.specs.ScriptLexemes.{ScriptLexeme, Atom, Upper, Before, Deny, Between, Compare, Chained, Open, Close, OpenList, CloseList, Comma, Calls, Becomes, Semicolon, Print, If, Then, Else, End, For, To, In, Do, While, Stops, Foreign}
 use Rattle.lw_ast.specs.Functions.{arity}
 use Rattle.lw_ast.specs.ScriptGrammar.{link_level, chain_level, Reads, atom, script_variable, bracketed, empty_list, listed, called, chaining, next, Items, last_item, next_item, Arguments, last_argument, next_argument, States, assignment, printing, choice, choice_of_two, counting, each_item, repetition, Follow, no_statement, statement, IsScript}

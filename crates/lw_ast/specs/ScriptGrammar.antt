@@ -27,7 +27,11 @@ use Rattle.lw_ast.specs.declared.operator.Op.{Op}
 use Rattle.lw_ast.specs.declared.operator.Relation.{Relation}
 use Rattle.lw_ast.specs.declared.operator.Prefix.{Prefix}
 use Rattle.lw_ast.specs.declared.function.Function.{Function}
-use Rattle.lw_ast.specs.Trees.{Series, Sum, Product, Link, Either, Both, Binary, Expression, upper, prefixed, linked, chained, compared, denied, list, call, Expressions, none, more, Operands, no_more, signed, assign, print, choose, count_up, each, repeat, Statement, at, Statements, over, then}
+use Rattle.lw_ast.specs.declared.operator.Series.{Series}
+use Rattle.lw_ast.specs.declared.operator.Series.TheVariants.{Sum, Product}
+use Rattle.lw_ast.specs.declared.operator.Link.{Link}
+use Rattle.lw_ast.specs.declared.operator.Link.TheVariants.{Either, Both, Binary}
+use Rattle.lw_ast.specs.Trees.{Expression, upper, prefixed, linked, chained, compared, denied, list, call, Expressions, none, more, Operands, no_more, signed, assign, print, choose, count_up, each, repeat, Statement, at, Statements, over, then}
 use Rattle.lw_ast.specs.ScriptLexemes.{ScriptLexeme, Atom, Upper, Before, Deny, Between, Compare, Chained, Open, Close, OpenList, CloseList, Comma, Calls, Becomes, Semicolon, Print, If, Then, Else, End, For, To, In, Do, While, Stops, script_lexeme_of, is_long}
 use Rattle.lw_ast.specs.Functions.{arity}
 

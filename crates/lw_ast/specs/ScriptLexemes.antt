@@ -19,7 +19,11 @@ use Rattle.lw_ast.specs.declared.operator.Relation.TheVariants.{Equal, Unequal, 
 use Rattle.lw_ast.specs.declared.operator.Prefix.{Prefix}
 use Rattle.lw_ast.specs.declared.operator.Prefix.TheVariants.{Not, Nec, Poss}
 use Rattle.lw_ast.specs.declared.function.Function.{Function}
-use Rattle.lw_ast.specs.Trees.{Series, Sum, Product, Link, Either, Both, Binary, Expression, number, text, truth, nothing, logic, variable, bot, top}
+use Rattle.lw_ast.specs.declared.operator.Series.{Series}
+use Rattle.lw_ast.specs.declared.operator.Series.TheVariants.{Sum, Product}
+use Rattle.lw_ast.specs.declared.operator.Link.{Link}
+use Rattle.lw_ast.specs.declared.operator.Link.TheVariants.{Either, Both, Binary}
+use Rattle.lw_ast.specs.Trees.{Expression, number, text, truth, nothing, logic, variable, bot, top}
 use Rattle.lw_ast.specs.Functions.{function_of}
 
 -- an expression of one token, a script variable, a sign, a bracket, a word of the statements, the end of the text, or
@@ -108,11 +112,16 @@ abbrev pub function_sign : Option Function → ScriptLexeme → ScriptLexeme
 function_sign (Some f) t = Calls f
 function_sign None t = t
 
+-- what a word at a line is that is no constant and no operator
+abbrev pub named_or_name : ℕ → List ℕ → ScriptLexeme
+named_or_name line word = logic_sign (logic_of word) (function_sign (function_of word) (name_sign line word))
+
+abbrev pub statement_or_name : ℕ → List ℕ → ScriptLexeme
+statement_or_name line word = known (statement_word line word) (named_or_name line word)
+
 -- what a word at a line is
 abbrev pub word_sign : ℕ → List ℕ → ScriptLexeme
-word_sign line word =
-    known (constant_word word) (known (operator_word word) (known (statement_word line word)
-    (logic_sign (logic_of word) (function_sign (function_of word) (name_sign line word)))))
+word_sign line word = known (constant_word word) (known (operator_word word) (statement_or_name line word))
 
 -- a symbol of formulas
 unfoldable pub formula_symbol : List ℕ → Option ScriptLexeme

@@ -13,7 +13,9 @@ use Rattle.lw_ast.specs.declared.script.Stmt.{Stmt}
 use Rattle.lw_ast.specs.declared.script.StmtKind.{StmtKind}
 use Rattle.lw_ast.specs.declared.script.StmtKind.TheOpen.{Block-F, StmtKind-F, Stmt-F}
 use Rattle.lw_ast.specs.declared.script.StmtKind.TheFolds.{fold-Block, fold-StmtKind, fold-Stmt}
-use Rattle.lw_ast.specs.Trees.{Sum, Product, Either, Both, Binary, Expression, number, text, truth, nothing, upper, logic, variable, bot, top, prefixed, linked, chained, compared, denied, list, call, Expressions, none, more, Operands, no_more, signed, Kind, assign, print, choose, count_up, each, repeat, Statement, at, Statements, over, then}
+use Rattle.lw_ast.specs.declared.operator.Series.TheVariants.{Sum, Product}
+use Rattle.lw_ast.specs.declared.operator.Link.TheVariants.{Either, Both, Binary}
+use Rattle.lw_ast.specs.Trees.{Expression, number, text, truth, nothing, upper, logic, variable, bot, top, prefixed, linked, chained, compared, denied, list, call, Expressions, none, more, Operands, no_more, signed, Kind, assign, print, choose, count_up, each, repeat, Statement, at, Statements, over, then}
 
 -- a list as expressions
 abbrev pub expressions_of : List Expression → Expressions

@@ -1,22 +1,12 @@
 -- The syntax trees of scripts.
 use Rattle.std.specs.Prelude.{ℕ, suc, Bool, List}
-use Rattle.lw_formula.specs.declared.joint.Joint.{Joint}
 use Rattle.lw_formula.specs.declared.logic.Logic.{Logic}
 use Rattle.lw_ast.specs.declared.operator.Op.{Op}
+use Rattle.lw_ast.specs.declared.operator.Series.{Series}
+use Rattle.lw_ast.specs.declared.operator.Link.{Link}
 use Rattle.lw_ast.specs.declared.operator.Relation.{Relation}
 use Rattle.lw_ast.specs.declared.operator.Prefix.{Prefix}
 use Rattle.lw_ast.specs.declared.function.Function.{Function}
-
--- sums and products
-pub data Series : Type 0 where
-  Sum : Series
-  Product : Series
-
--- what joins two expressions: `or`, `and`, or a connective of formulas
-pub data Link : Type 0 where
-  Either : Link
-  Both : Link
-  Binary : (sign : Joint) → Link
 
 mutual
   pub data Expression : Type 0 where

@@ -1,11 +1,13 @@
 //! Scripts as texts: each text has exactly one script, or exactly one fault at its line and column.
 #![tactic(auto)]
 
+mod construct;
 mod expr;
 mod fault;
 mod function;
 mod laws;
 mod operator;
+mod part;
 mod script;
 
 pub use expr::{Expr, Exprs, Terms};

@@ -1,3 +1,5 @@
+use lw_formula::Joint;
+
 /// A sign between the operands of a sum or a product.
 #[derive(Clone, Copy, Debug, PartialEq, Eq)]
 pub enum Op {
@@ -21,4 +23,19 @@ pub enum Prefix {
     Not,
     Nec,
     Poss,
+}
+
+/// Sums and products.
+#[derive(Clone, Copy, Debug, PartialEq, Eq)]
+pub enum Series {
+    Sum,
+    Product,
+}
+
+/// What joins two expressions: `or`, `and`, or a connective of formulas.
+#[derive(Clone, Copy, Debug, PartialEq, Eq)]
+pub enum Link {
+    Either,
+    Both,
+    Binary(Joint),
 }

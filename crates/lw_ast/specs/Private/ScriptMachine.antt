@@ -7,7 +7,10 @@ use Rattle.lw_ast.specs.declared.operator.Op.{Op}
 use Rattle.lw_ast.specs.declared.operator.Relation.{Relation}
 use Rattle.lw_ast.specs.declared.operator.Prefix.{Prefix}
 use Rattle.lw_ast.specs.declared.function.Function.{Function}
-use Rattle.lw_ast.specs.Trees.{Series, Sum, Product, Link, Expression, upper, prefixed, linked, chained, compared, denied, list, call, Expressions, none, put, count, Operands, no_more, add, sign_count, Kind, assign, print, choose, count_up, each, repeat, at, Statements, over, behind}
+use Rattle.lw_ast.specs.declared.operator.Series.{Series}
+use Rattle.lw_ast.specs.declared.operator.Series.TheVariants.{Sum, Product}
+use Rattle.lw_ast.specs.declared.operator.Link.{Link}
+use Rattle.lw_ast.specs.Trees.{Expression, upper, prefixed, linked, chained, compared, denied, list, call, Expressions, none, put, count, Operands, no_more, add, sign_count, Kind, assign, print, choose, count_up, each, repeat, at, Statements, over, behind}
 use Rattle.lw_ast.specs.ScriptLexemes.{ScriptLexeme, Atom, Upper, Before, Deny, Between, Compare, Chained, Open, Close, OpenList, CloseList, Comma, Calls, Becomes, Semicolon, Print, If, Then, Else, End, For, To, In, Do, While, Stops}
 use Rattle.lw_ast.specs.Functions.{arity}
 use Rattle.lw_ast.specs.ScriptGrammar.{link_level, chain_level}
