@@ -1,0 +1,3 @@
+pub mod SidePieces
+pub mod StepInterpolants
+pub mod ReadInterpolants

@@ -1,0 +1,3 @@
+pub mod Interpolant
+pub mod Maehara
+pub mod Laws
