@@ -1,0 +1,5 @@
+pub mod OutermostFormulas
+pub mod WorldInduction
+pub mod AlikeFormulas
+pub mod ConstructedFormulas
+pub mod FixedPoints

@@ -1,0 +1,3 @@
+pub mod Outermost
+pub mod FixedPoint
+pub mod Laws
