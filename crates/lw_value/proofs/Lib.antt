@@ -1,4 +1,5 @@
 pub mod AssignedValues
+pub mod GrowingPools
 pub mod LengthsAdded
 pub mod LoadsJoined
 pub mod ValuesWaiting
