@@ -1,11 +1,14 @@
 -- The entries of a map of variables as names with the values that they stand for.
-use Rattle.std.proofs.Common.{◌≡◌, ℕ, Bool, true, false, List, [], ◌∷◌, Option, None, Some, map, refl, ap, if◌then◌else◌, Bor}
+use Rattle.std.proofs.Common.{◌≡◌, ◌≢◌, ℕ, Bool, true, false, List, [], ◌∷◌, Option, None, Some, map, AllPairs, refl, sym, ap, subst, if◌then◌else◌, Bor}
 use Rattle.std.specs.Prelude.{option_copied}
+use Rattle.std.specs.List.{IsDistinct}
 use Rattle.std.specs.Str.{bytes_eq}
+use Rattle.std.proofs.lemmas.Map.Made.{AllPairs-from_IsDistinct}
+use Rattle.std.proofs.lemmas.Slice.Eq.{bytes_eq-Decides}
 use Rattle.std.specs.Map.{lookup}
 use Rattle.indexmap.specs.IndexMap.{insert_entry}
 use Rattle.lw_value.specs.declared.value.Value.{Value}
-use Rattle.lw_value.specs.Assignments.{value_at, put}
+use Rattle.lw_value.specs.Assignments.{value_at, put, HaveOwnNames}
 use Rattle.lw_value.specs.Views.{value_of, assigned, value_under}
 
 -- the value that is found stands for that of the name
@@ -34,3 +37,10 @@ put-assigned (e ∷ es) x v = by (bytes_eq x e.0) (put-assigned es x v)
         → map assigned (if b then (e.0, v) ∷ es else e ∷ insert_entry bytes_eq es x v) ≡ (if b then (e.0, value_of v) ∷ map assigned es else assigned e ∷ put (map assigned es) x (value_of v))
     by true rest = refl
     by false rest = ap (λ ps. assigned e ∷ ps) rest
+
+names-assigned : (es : List (List ℕ × Value)) → map (λ p. p.0) (map assigned es) ≡ map (λ e. e.0) es
+names-assigned [] = refl
+names-assigned (e ∷ es) = ap (λ xs. e.0 ∷ xs) (names-assigned es)
+
+pub own_names : (es : List (List ℕ × Value)) → IsDistinct bytes_eq (map (λ e. e.0) es) → HaveOwnNames (map assigned es)
+own_names es unique = subst (AllPairs (λ x y. x ≢ y)) (sym (names-assigned es)) (AllPairs-from_IsDistinct bytes_eq-Decides (map (λ e. e.0) es) unique)

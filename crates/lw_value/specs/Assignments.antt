@@ -1,5 +1,5 @@
 -- The variables of a script: names with values, in order of first assignment.
-use Rattle.std.specs.Prelude.{ℕ, List, [], ◌∷◌, Option, None, Some, if◌then◌else◌}
+use Rattle.std.specs.Prelude.{◌≢◌, ℕ, List, [], ◌∷◌, map, AllPairs, Option, None, Some, if◌then◌else◌}
 use Rattle.std.specs.Str.{bytes_eq}
 
 -- the value that the name has, if it has one
@@ -12,3 +12,6 @@ abbrev pub put : {V : Type 0} → List (List ℕ × V) → List ℕ → V → Li
 put [] x v = (x, v) ∷ []
 put (p ∷ ps) x v = if bytes_eq x p.0 then (p.0, v) ∷ ps else p ∷ put ps x v
 
+-- no name stands twice
+abbrev pub HaveOwnNames : {V : Type 0} → List (List ℕ × V) → Type 0
+HaveOwnNames ps = AllPairs (λ x y. x ≢ y) (map (λ p. p.0) ps)

@@ -1,5 +1,5 @@
 ghost use Rattle.std.specs.Prelude.{◌≡◌, [], OnOk, OnErr};
-ghost use Rattle.lw_value.specs.Assignments.{value_at, put};
+ghost use Rattle.lw_value.specs.Assignments.{value_at, put, HaveOwnNames};
 ghost use Rattle.lw_value.specs.Views.{value_of, value_under};
 
 use crate::value::Value;
@@ -30,6 +30,10 @@ impl Model for Env {
     ghost use Rattle.lw_value.specs.Views.{assigned};
 
     ghost view = { λ env. map assigned env.values.entries };
+
+    ghost use Rattle.lw_value.specs.Assignments.{HaveOwnNames};
+
+    ghost invariant = { λ env. HaveOwnNames (map assigned env.values.entries) };
 }
 
 impl Env {
@@ -42,9 +46,10 @@ impl Env {
         }
     }
 
-    /// The value that the name was last given, if it was given one.
+    /// The value that the name was last given, if it was given one. No name stands twice among the variables.
     pub fn get(&self, name: &Chars) -> Option<&Value>
-        ensures { value_under result ≡ value_at self.now name.now }
+        ensures names { HaveOwnNames self.now }
+        ensures value { value_under result ≡ value_at self.now name.now }
     {
         self.values.get(name)
     }
