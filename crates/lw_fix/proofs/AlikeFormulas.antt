@@ -1,8 +1,7 @@
 -- Truth of formulas that differ in what stands for p, in a model of GL.
-use Rattle.std.proofs.Common.{◌≡◌, ℕ, Bool, true, false, not, ◌&&◌, ◌||◌, List, ◌⊎◌, if◌then◌else◌, inl, inr, refl, ap, sym, ◌∙◌}
-use Rattle.std.specs.Bool.{Decides, beq}
+use Rattle.std.proofs.Common.{◌≡◌, ℕ, Bool, true, false, not, ◌&&◌, ◌||◌, List, if◌then◌else◌, inl, inr, refl, ap, sym, ◌∙◌}
+use Rattle.std.specs.Bool.{beq}
 use Rattle.std.specs.Str.{bytes_eq}
-use Rattle.std.proofs.lemmas.Bool.{false≢true}
 use Rattle.lw_formula.specs.Formula.{Formula, letter, falsum, verum, neg, conj, disj, impl, equi, nec, poss}
 use Rattle.lw_formula.specs.FiniteModel.{FiniteModel, Sees}
 use Rattle.lw_formula.specs.Class.{IsTransitive}

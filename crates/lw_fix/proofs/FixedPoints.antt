@@ -13,7 +13,7 @@ use Rattle.lw_formula.proofs.RevaluedModels.{seen_below}
 use Rattle.lw_formula.proofs.SameFormulas.{same_formula-Decides}
 use Rattle.lw_formula.proofs.TruthTest.{true_at-IsTrueAt}
 use Rattle.lw_fix.specs.Outermost.{Modalised, IsOutermost, has_letter, outermost}
-use Rattle.lw_fix.specs.FixedPoint.{IsFixedPoint, default_of, without, solved, fix_within, fix}
+use Rattle.lw_fix.specs.FixedPoint.{IsFixedPoint, default_of, without, fix_within, fix}
 use Rattle.lw_fix.proofs.WorldInduction.{climb}
 use Rattle.lw_fix.proofs.OutermostFormulas.{has_letter-Decides, outermost_is, IsOutermost-Modalised, replace_at, replace_outer, replace_none, replace_self}
 use Rattle.lw_fix.proofs.AlikeFormulas.{bool_same, equi_from, equi_to, modalised_alike, at_alike}

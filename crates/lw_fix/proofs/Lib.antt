@@ -3,3 +3,8 @@ pub mod WorldInduction
 pub mod AlikeFormulas
 pub mod ConstructedFormulas
 pub mod FixedPoints
+pub mod BareOccurrences
+pub mod BareMarks
+pub mod ImagesFound
+pub mod OutermostFound
+pub mod SolvedFormulas

@@ -1,5 +1,5 @@
 -- The outermost modal subformulas of a formula, and functions at them.
-use Rattle.std.proofs.Common.{◌≡◌, ◌≢◌, ℕ, ◌<◌, ◌≤◌, Bool, true, false, ◌||◌, List, [], ◌∷◌, length, ◌⊎◌, ◌↔◌, if◌then◌else◌, inl, inr, ⊎_elim, refl, ap, sym, subst, ◌∙◌, arith}
+use Rattle.std.proofs.Common.{◌≡◌, ℕ, Bool, true, false, List, [], ◌∷◌, ◌⊎◌, ◌↔◌, if◌then◌else◌, inl, inr, ⊎_elim, refl, ap, sym, subst, ◌∙◌}
 use Rattle.std.specs.Bool.{Decides}
 use Rattle.std.specs.List.{Contains}
 use Rattle.std.specs.Str.{bytes_eq}
@@ -11,7 +11,7 @@ use Rattle.lw_formula.specs.FiniteModel.{AreDistinct}
 use Rattle.lw_formula.specs.Variables.{Occurs, replace}
 use Rattle.lw_formula.proofs.ListMembers.{Contains-nil, Contains-head, Contains-cons_cases, AreDistinct-nil, AreDistinct-cons}
 use Rattle.lw_formula.proofs.SubformulaLists.{union-Contains, union-AreDistinct}
-use Rattle.lw_fix.specs.Outermost.{StandsBare, Modalised, IsOutermost, has_letter, if_with, outermost, at_outermost}
+use Rattle.lw_fix.specs.Outermost.{StandsBare, Modalised, IsOutermost, has_letter, outermost, at_outermost}
 
 pub has_letter-Decides : (p : List ℕ) (a : Formula) → Decides (has_letter p a) (Occurs p a)
 has_letter-Decides p (letter q) = bytes_eq-Decides p q

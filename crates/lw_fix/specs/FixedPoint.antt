@@ -1,5 +1,5 @@
 -- Fixed points in GL, after de Jongh and Sambin (Boolos, The Logic of Provability, chapter 8).
-use Rattle.std.specs.Prelude.{◌≡◌, ℕ, suc, zero, Bool, List, length, if◌then◌else◌}
+use Rattle.std.specs.Prelude.{ℕ, suc, zero, Bool, List, length, if◌then◌else◌}
 use Rattle.lw_formula.specs.declared.logic.Logic.TheVariants.{GL}
 use Rattle.lw_formula.specs.Formula.{Formula, letter, falsum, verum, neg, conj, disj, impl, equi, nec, poss, same_formula}
 use Rattle.lw_formula.specs.Variables.{Occurs, replace}

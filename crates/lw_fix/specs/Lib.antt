@@ -1,3 +1,5 @@
 pub mod Outermost
 pub mod FixedPoint
+pub mod FixFaults
 pub mod Laws
+pub mod Private
