@@ -9,6 +9,8 @@ mod laws;
 mod operator;
 mod part;
 mod script;
+mod state;
+mod statement;
 
 pub use expr::{Expr, Exprs, Terms};
 pub use fault::{ScriptFault, SyntaxWhy};

@@ -1,4 +1,4 @@
-ghost use Rattle.std.specs.Prelude.{◌≡◌, ℕ};
+ghost use Rattle.std.specs.Prelude.{◌≡◌, ◌≤◌, ℕ};
 ghost use Rattle.lw_ast.specs.Functions.{arity, function_of};
 ghost use Rattle.lw_ast.specs.ScriptLexemes.{kind_script_lexeme, word_sign, symbol_sign, constant_word, operator_word, statement_word, formula_symbol, value_symbol, other_symbol, known, statement_or_name, named_or_name};
 ghost use Rattle.lw_ast.specs.Private.ReaderViews.{lexeme, some_lexeme};
@@ -277,9 +277,10 @@ fn other_part(symbol: &[u8]) -> Part
     }
 }
 
-/// How many arguments the function takes.
+/// How many arguments the function takes, one at the least.
 pub fn arity(function: Function) -> usize
-    ensures { result ≡ arity function }
+    ensures arity { result ≡ arity function }
+    ensures some { 1 ≤ result }
 {
     match function {
         Function::Provable | Function::Certificate | Function::Item | Function::Append => 2,
