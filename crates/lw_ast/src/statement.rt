@@ -1,12 +1,11 @@
-ghost use Rattle.std.specs.Prelude.{◌≡◌, IfOk, IfErr, ℕ, List, [], ◌∷◌};
-ghost use Rattle.lw_ast.specs.Trees.{none, over, behind, at};
+ghost use Rattle.std.specs.Prelude.{◌≡◌, IfOk, IfErr, [], ◌∷◌};
+ghost use Rattle.lw_ast.specs.Trees.{over, behind, at};
 ghost use Rattle.lw_ast.specs.ScriptLexemes.{End, Else, Stops, Semicolon, Then, To, Do};
 ghost use Rattle.lw_ast.specs.ScriptViews.{expression, statements, kind as kind_of_statement};
 ghost use Rattle.lw_ast.specs.Private.ScriptMachine.{Need, At, In', Within, kind_of, end, otherwise, stop, leave};
-ghost use Rattle.lw_ast.specs.Private.ReaderViews.{lexeme, head_of, compound_of, bodies_of, setting_of, state_of, IsStep, IsRefused};
+ghost use Rattle.lw_ast.specs.Private.ReaderViews.{head_of, compound_of, bodies_of, setting_of, state_of, IsStep, IsRefused};
 
-use crate::expr::{Expr, Exprs};
-use crate::part::Part;
+use crate::expr::Expr;
 use crate::script::{Block, Stmt, StmtKind};
 use crate::state::{Compound, Enclosing, Head, Progress, Setting};
 use lw_read::{TextFault, Token};
