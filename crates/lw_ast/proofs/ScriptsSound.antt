@@ -61,6 +61,12 @@ Good whole Astray ts = Unit {0}
 pub arity-some : (f : Function) → 0 < arity f
 arity-some function.Provable = omega arith
 arity-some function.Certificate = omega arith
+arity-some function.Interpolate = omega arith
+arity-some function.Fixpoint = omega arith
+arity-some function.Nnf = omega arith
+arity-some function.Simplify = omega arith
+arity-some function.Goedel = omega arith
+arity-some function.Boxdot = omega arith
 arity-some function.Substitute = omega arith
 arity-some function.Vars = omega arith
 arity-some function.Depth = omega arith

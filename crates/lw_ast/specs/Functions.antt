@@ -2,12 +2,18 @@
 use Rattle.std.specs.Prelude.{ℕ, List, Option, Some, None, if◌then◌else◌, codes}
 use Rattle.std.specs.Str.{bytes_eq}
 use Rattle.lw_ast.specs.declared.function.Function.{Function}
-use Rattle.lw_ast.specs.declared.function.Function.TheVariants.{Provable, Certificate, Substitute, Vars, Depth, Count, Length, Item, Append}
+use Rattle.lw_ast.specs.declared.function.Function.TheVariants.{Provable, Certificate, Interpolate, Fixpoint, Nnf, Simplify, Goedel, Boxdot, Substitute, Vars, Depth, Count, Length, Item, Append}
 
 -- how many arguments the function takes
 abbrev pub arity : Function → ℕ
 arity Provable = 2
 arity Certificate = 2
+arity Interpolate = 3
+arity Fixpoint = 2
+arity Nnf = 1
+arity Simplify = 1
+arity Goedel = 1
+arity Boxdot = 1
 arity Substitute = 3
 arity Vars = 1
 arity Depth = 1
@@ -21,6 +27,12 @@ unfoldable pub function_of : List ℕ → Option Function
 function_of word =
     if bytes_eq word (codes "provable") then Some Provable else
     if bytes_eq word (codes "certificate") then Some Certificate else
+    if bytes_eq word (codes "interpolate") then Some Interpolate else
+    if bytes_eq word (codes "fixpoint") then Some Fixpoint else
+    if bytes_eq word (codes "nnf") then Some Nnf else
+    if bytes_eq word (codes "simplify") then Some Simplify else
+    if bytes_eq word (codes "goedel") then Some Goedel else
+    if bytes_eq word (codes "boxdot") then Some Boxdot else
     if bytes_eq word (codes "substitute") then Some Substitute else
     if bytes_eq word (codes "vars") then Some Vars else
     if bytes_eq word (codes "depth") then Some Depth else

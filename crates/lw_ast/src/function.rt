@@ -3,6 +3,12 @@
 pub enum Function {
     Provable,
     Certificate,
+    Interpolate,
+    Fixpoint,
+    Nnf,
+    Simplify,
+    Goedel,
+    Boxdot,
     Substitute,
     Vars,
     Depth,

@@ -177,6 +177,18 @@ pub fn function_of(word: &[u8]) -> Option<Function>
         Some(Function::Provable)
     } else if word == b"certificate".as_slice() {
         Some(Function::Certificate)
+    } else if word == b"interpolate".as_slice() {
+        Some(Function::Interpolate)
+    } else if word == b"fixpoint".as_slice() {
+        Some(Function::Fixpoint)
+    } else if word == b"nnf".as_slice() {
+        Some(Function::Nnf)
+    } else if word == b"simplify".as_slice() {
+        Some(Function::Simplify)
+    } else if word == b"goedel".as_slice() {
+        Some(Function::Goedel)
+    } else if word == b"boxdot".as_slice() {
+        Some(Function::Boxdot)
     } else if word == b"substitute".as_slice() {
         Some(Function::Substitute)
     } else if word == b"vars".as_slice() {
@@ -283,8 +295,19 @@ pub fn arity(function: Function) -> usize
     ensures some { 1 ≤ result }
 {
     match function {
-        Function::Provable | Function::Certificate | Function::Item | Function::Append => 2,
-        Function::Substitute => 3,
-        Function::Vars | Function::Depth | Function::Count | Function::Length => 1,
+        Function::Provable
+        | Function::Certificate
+        | Function::Fixpoint
+        | Function::Item
+        | Function::Append => 2,
+        Function::Interpolate | Function::Substitute => 3,
+        Function::Nnf
+        | Function::Simplify
+        | Function::Goedel
+        | Function::Boxdot
+        | Function::Vars
+        | Function::Depth
+        | Function::Count
+        | Function::Length => 1,
     }
 }
