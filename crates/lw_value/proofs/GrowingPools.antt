@@ -1,11 +1,12 @@
--- Values keep their formulas where the pool keeps its own.
-use Rattle.std.proofs.Common.{◌≡◌, List, refl, ap, arith}
+-- Values and variables keep their formulas where the pool keeps its own.
+use Rattle.std.proofs.Common.{◌≡◌, ℕ, List, [], ◌∷◌, refl, ap, arith}
 use Rattle.lw_formula.specs.declared.sign.Sign.{Sign}
 use Rattle.lw_formula.specs.Formula.{Formula}
 use Rattle.lw_pool.specs.declared.id.FormId.{FormId}
 use Rattle.lw_pool.specs.Region.{tree_at, IsLive, Grows}
 use Rattle.lw_proof.specs.Tree.{Tree, Forest, node, none, more, map_tree, map_forest, EachPrincipal, EachOfAll}
-use Rattle.lw_value.specs.Values.{Evidence, proved, refuted, Val, Vals, shown_by, shown_all, seen, EachShown, EachOfItems, AreLive, formula, truth, number, text, items, logic, certificate, naught, empty, item}
+use Rattle.lw_value.specs.Values.{Evidence, proved, refuted, Val, Vals, shown_by, shown_all, seen, seen_all, EachShown, EachOfItems, AreLive, AreItemsLive, formula, truth, number, text, items, logic, certificate, naught, empty, item}
+use Rattle.lw_value.specs.Assignments.{variables_seen, AreVariablesLive}
 
 -- a signed formula, by its id
 abbrev signed_pair : List Formula → Sign × FormId → Sign × Formula
@@ -69,6 +70,26 @@ module _ (old new : List Formula) (g : Grows old new) where
     items_live empty live = tt
     items_live (item v vs) live = (value_live v live.0, items_live vs live.1)
 
--- a grown pool has a value's ids still, with the same formulas
-pub seen_grows : (old new : List Formula) (v : Val FormId) → Grows old new → AreLive old v → (seen new v ≡ seen old v) × AreLive new v
-seen_grows old new v g live = (value_same old new g v live, value_live old new g v live)
+-- a value has the same formulas in the grown pool
+pub seen_grows : (old new : List Formula) (v : Val FormId) → Grows old new → AreLive old v → seen new v ≡ seen old v
+seen_grows old new v g live = value_same old new g v live
+
+-- the grown pool has the value's ids still
+pub live_grows : (old new : List Formula) (v : Val FormId) → Grows old new → AreLive old v → AreLive new v
+live_grows old new v g live = value_live old new g v live
+
+-- the same of values in order
+pub items_seen_grow : (old new : List Formula) (vs : Vals FormId) → Grows old new → AreItemsLive old vs → seen_all new vs ≡ seen_all old vs
+items_seen_grow old new vs g live = items_same old new g vs live
+
+pub items_live_grow : (old new : List Formula) (vs : Vals FormId) → Grows old new → AreItemsLive old vs → AreItemsLive new vs
+items_live_grow old new vs g live = items_live old new g vs live
+
+-- the same of variables
+pub variables_seen_grow : (old new : List Formula) (ps : List (List ℕ × Val FormId)) → Grows old new → AreVariablesLive old ps → variables_seen new ps ≡ variables_seen old ps
+variables_seen_grow old new [] g live = refl
+variables_seen_grow old new (p ∷ ps) g live = λ i. (p.0, seen_grows old new p.1 g live.0 i) ∷ variables_seen_grow old new ps g live.1 i
+
+pub variables_live_grow : (old new : List Formula) (ps : List (List ℕ × Val FormId)) → Grows old new → AreVariablesLive old ps → AreVariablesLive new ps
+variables_live_grow old new [] g live = tt
+variables_live_grow old new (p ∷ ps) g live = (live_grows old new p.1 g live.0, variables_live_grow old new ps g live.1)

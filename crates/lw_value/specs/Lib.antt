@@ -1,6 +1,7 @@
 pub mod Values
 pub mod Certified
 pub mod Views
+pub mod Evidence
 pub mod ValueTexts
 pub mod Assignments
 pub mod Private

@@ -100,3 +100,11 @@ seen ts v = shown (tree_at ts) v
 -- the pool has each id of the value
 abbrev pub AreLive : List Formula → Val FormId → Type 0
 AreLive ts v = EachFormula (IsLive ts) v
+
+-- the values with the formulas of their ids
+abbrev pub seen_all : List Formula → Vals FormId → Vals Formula
+seen_all ts vs = shown_all (tree_at ts) vs
+
+-- the pool has each id of the values
+abbrev pub AreItemsLive : List Formula → Vals FormId → Type 0
+AreItemsLive ts vs = EachOfItems (IsLive ts) vs

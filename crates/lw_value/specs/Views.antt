@@ -1,10 +1,10 @@
 -- The value that a program's value stands for.
-use Rattle.std.specs.Prelude.{ℕ, List, Option, None, Some}
+use Rattle.std.specs.Prelude.{ℕ, List, map, Option, None, Some}
 use Rattle.std.proofs.Common.{Bor}
 use Rattle.lw_pool.specs.declared.id.FormId.{FormId}
 use Rattle.lw_value.specs.declared.value.Value.{Value}
 use Rattle.lw_value.specs.declared.value.Value.TheVariants as kind
-use Rattle.lw_value.specs.Values.{Val, vals, formula, truth, number, text, items, logic, naught}
+use Rattle.lw_value.specs.Values.{Val, Vals, vals, formula, truth, number, text, items, logic, naught}
 use Rattle.lw_value.specs.Certified.{certified}
 
 -- the value that the program's value stands for
@@ -17,6 +17,10 @@ value_of (kind.Items vs) = items (vals vs)
 value_of (kind.Logic l) = logic l
 value_of (kind.Certificate c) = certified c.value
 value_of kind.Nothing = naught
+
+-- the values that the program's values stand for
+abbrev pub values_of : List Value → Vals FormId
+values_of vs = vals (map value_of vs)
 
 -- the name and the value of a variable
 abbrev pub assigned : List ℕ × Value → List ℕ × Val FormId
