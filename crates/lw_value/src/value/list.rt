@@ -87,7 +87,7 @@ impl Items {
     }
 
     /// The same items, shared. It fails for want of memory alone.
-    pub(crate) fn try_clone(&self) -> Result<Items, AllocError>
+    pub fn try_clone(&self) -> Result<Items, AllocError>
         ensures { IfOk result (λ items. items ≡ self.now) }
     {
         match &self.list {
@@ -108,8 +108,8 @@ impl Items {
         }
     }
 
-    /// The items.
-    pub(crate) fn as_slice(&self) -> &[Value]
+    /// The items, in order.
+    pub fn as_slice(&self) -> &[Value]
         ensures { map value_of result.now ≡ self.now }
     {
         match &self.list {

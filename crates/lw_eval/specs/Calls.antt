@@ -1,0 +1,97 @@
+-- What functions give for their arguments: one row each.
+use Rattle.std.specs.Prelude.{◌≡◌, ℕ, zero, suc, ◌<◌, ◌≤◌, List, length, map, true, false}
+use Rattle.lw_formula.specs.declared.logic.Logic.{Logic}
+use Rattle.lw_formula.specs.Formula.{Formula, letter, impl, depth, nodes, subformula_count}
+use Rattle.lw_formula.specs.FiniteModel.{FiniteModel}
+use Rattle.lw_formula.specs.Signed.{Signed}
+use Rattle.lw_formula.specs.Variables.{AreVariables, replace}
+use Rattle.lw_formula.specs.Validity.{Valid, Refutes}
+use Rattle.lw_model.specs.Bounds.{IsWithinBounds}
+use Rattle.lw_proof.specs.Tree.{Tree}
+use Rattle.lw_proof.specs.Lean.{Lean}
+use Rattle.lw_closure.specs.declared.fault.TheConstants.{SUBFORMULA_LIMIT}
+use Rattle.lw_interp.specs.Interpolant.{Interpolant, has_interpolants}
+use Rattle.lw_interp.specs.Laws.{node_bound}
+use Rattle.lw_fix.specs.Outermost.{StandsBare, Modalised, outermost}
+use Rattle.lw_fix.specs.FixedPoint.{fix}
+use Rattle.lw_fix.specs.FixFaults.{IsWithinLimit, box_limit}
+use Rattle.lw_normal.specs.NegationNormalForm.{nnf}
+use Rattle.lw_normal.specs.Simplification.{simplify}
+use Rattle.lw_trans.specs.declared.connective.Connective.{Connective}
+use Rattle.lw_trans.specs.Connectives.{IsIntuitionistic, IsFirst}
+use Rattle.lw_trans.specs.Translations.{goedel, boxdot}
+use Rattle.lw_ast.specs.declared.function.Function.{Function}
+use Rattle.lw_ast.specs.declared.function.Function.TheVariants.{Provable, Certificate, Interpolate, Fixpoint, Nnf, Simplify, Goedel, Boxdot, Substitute, Vars, Depth, Count, Length, Item, Append}
+use Rattle.lw_value.specs.Values.{proved, refuted, Val, Vals, formula, number, certificate, naught, empty, item, vals}
+use Rattle.lw_value.specs.ValueTexts.{count_of}
+use Rattle.lw_eval.specs.declared.trouble.Trouble.TheVariants.{Range, TooLarge, NoInterpolants, NotModalised, TooManyBoxes, NotIntuitionistic}
+use Rattle.lw_eval.specs.Evaluations.{Evaluation, Got, Fails, Is, Given, Tells}
+use Rattle.lw_eval.specs.Operands.{formula_in, list_in, logic_and_formula, logic_and_formulas, variable_and_formula, formula_variable_formula, list_and_number, list_and_value, one, two, three}
+use Rattle.lw_eval.specs.Operators.{list_of}
+
+-- a formula is decided where it hasn't too many distinct subformulas
+pub data Decided (a : Formula) (answer : Evaluation (Val Formula) → Type 0) : Evaluation (Val Formula) → Type 0 where
+  decided : {r : Evaluation (Val Formula)} → subformula_count a ≤ SUBFORMULA_LIMIT → answer r → Decided a answer r
+  too_large : SUBFORMULA_LIMIT < subformula_count a → Decided a answer (Fails (TooLarge (subformula_count a)))
+
+-- a certificate: any lean proof of the formula, or any model within the bounds that refutes it
+pub data Certifies (l : Logic) (a : Formula) : Evaluation (Val Formula) → Type 0 where
+  by_proof : (P : Tree Signed) → Lean l P a → Certifies l a (Got (certificate l a (proved P)))
+  by_model : (m : FiniteModel) (w : ℕ) → Refutes l m w a → IsWithinBounds l a m → Certifies l a (Got (certificate l a (refuted m w)))
+
+-- an interpolant of a and b, with no more nodes than are read off some lean proof; none where a doesn't imply b
+pub data Interpolates (l : Logic) (a b : Formula) : Evaluation (Val Formula) → Type 0 where
+  between : (i : Formula) (P : Tree Signed) → Interpolant l a i b → Lean l P (impl a b) → nodes i ≤ node_bound P a b →
+      Interpolates l a b (Got (formula i))
+  none : ¬ Valid l (impl a b) → Interpolates l a b (Got naught)
+
+-- the logic has interpolants here, or is refused by name
+pub data Supported (l : Logic) (answer : Evaluation (Val Formula) → Type 0) : Evaluation (Val Formula) → Type 0 where
+  supported : {r : Evaluation (Val Formula)} → has_interpolants l ≡ true → answer r → Supported l answer r
+  unsupported : has_interpolants l ≡ false → Supported l answer (Fails (NoInterpolants l))
+
+-- the fixed point of the formula for p in GL
+pub data Fixes (p : List ℕ) (a : Formula) : Evaluation (Val Formula) → Type 0 where
+  fixed : IsWithinLimit p a → Fixes p a (Got (formula (fix p a)))
+  bare : StandsBare p a → Fixes p a (Fails NotModalised)
+  many : Modalised p a → box_limit < length (outermost p a) → Fixes p a (Fails (TooManyBoxes (length (outermost p a))))
+
+-- Gödel's translation of an intuitionistic formula
+pub data Translates (a : Formula) : Evaluation (Val Formula) → Type 0 where
+  translated : IsIntuitionistic a → Translates a (Got (formula (goedel a)))
+  modal : (what : Connective) → IsFirst what a → Translates a (Fails (NotIntuitionistic what))
+
+-- the variables of the formula as formulas, each once, in byte order
+pub data Lists (a : Formula) : Evaluation (Val Formula) → Type 0 where
+  lists : {r : Evaluation (Val Formula)} (names : List (List ℕ)) → AreVariables a names →
+      Is (list_of (vals (map (λ p. formula (letter p)) names))) r → Lists a r
+
+-- the n-th item, from 1
+abbrev pub item_at : Vals Formula → ℕ → Evaluation (Val Formula)
+item_at empty n = Fails Range
+item_at (item v vs) zero = Fails Range
+item_at (item v vs) (suc zero) = Got v
+item_at (item v vs) (suc (suc n)) = item_at vs (suc n)
+
+-- the items with one more behind them
+abbrev pub with_last : Vals Formula → Val Formula → Vals Formula
+with_last empty v = item v empty
+with_last (item w ws) v = item w (with_last ws v)
+
+-- the table of functions: the kinds of the arguments, and then the value or the function's own refusal
+abbrev pub Calls : Function → Vals Formula → Evaluation (Val Formula) → Type 0
+Calls Provable vs = Given (two logic_and_formula vs) (λ x. Decided x.1 (Tells (Valid x.0 x.1)))
+Calls Certificate vs = Given (two logic_and_formula vs) (λ x. Decided x.1 (Certifies x.0 x.1))
+Calls Interpolate vs = Given (three logic_and_formulas vs) (λ x. Supported x.0 (Decided (impl x.1 x.2) (Interpolates x.0 x.1 x.2)))
+Calls Fixpoint vs = Given (two variable_and_formula vs) (λ x. Fixes x.0 x.1)
+Calls Nnf vs = Given (one formula_in vs) (λ a. Is (Got (formula (nnf a))))
+Calls Simplify vs = Given (one formula_in vs) (λ a. Is (Got (formula (simplify a))))
+Calls Goedel vs = Given (one formula_in vs) (λ a. Translates a)
+Calls Boxdot vs = Given (one formula_in vs) (λ a. Is (Got (formula (boxdot a))))
+Calls Substitute vs = Given (three formula_variable_formula vs) (λ x. Is (Got (formula (replace x.1 x.2 x.0))))
+Calls Vars vs = Given (one formula_in vs) (λ a. Lists a)
+Calls Depth vs = Given (one formula_in vs) (λ a. Is (Got (number (depth a))))
+Calls Count vs = Given (one formula_in vs) (λ a. Is (Got (number (subformula_count a))))
+Calls Length vs = Given (one list_in vs) (λ xs. Is (Got (number (count_of xs))))
+Calls Item vs = Given (two list_and_number vs) (λ x. Is (item_at x.0 x.1))
+Calls Append vs = Given (two list_and_value vs) (λ x. Is (list_of (with_last x.0 x.1)))

@@ -1,0 +1,42 @@
+-- What an answer of the program says of an evaluation, and values of the program as they are seen.
+use Rattle.std.specs.Prelude.{◌≡◌, ⊤, List, Result, Ok, Err}
+use Rattle.lw_formula.specs.Formula.{Formula}
+use Rattle.lw_ast.specs.declared.function.Function.{Function}
+use Rattle.lw_value.specs.declared.value.Value.{Value}
+use Rattle.lw_value.specs.Values.{Val, Vals, seen, seen_all, AreLive, AreItemsLive}
+use Rattle.lw_value.specs.Views.{value_of, values_of}
+use Rattle.lw_eval.specs.declared.trouble.Trouble.{Trouble}
+use Rattle.lw_eval.specs.declared.fault.EvalFault.{EvalFault}
+use Rattle.lw_eval.specs.declared.fault.EvalFault.TheVariants.{Troubled, Memory}
+use Rattle.lw_eval.specs.Evaluations.{Evaluation, Got, Fails}
+use Rattle.lw_eval.specs.Calls.{Calls}
+
+-- the evaluation comes to what was answered, as it is seen
+abbrev pub Comes : {X A : Type 0} → (X → A) → Evaluation A → Result X Trouble → Type 0
+Comes see e (Ok x) = e ≡ Got (see x)
+Comes see e (Err t) = e ≡ Fails t
+
+-- an evaluation may come to what was answered, as it is seen; want of memory may come in any
+abbrev pub Gives : {X A : Type 0} → (X → A) → (Evaluation A → Type 0) → Result X EvalFault → Type 0
+Gives see value (Ok x) = value (Got (see x))
+Gives see value (Err (Troubled t)) = value (Fails t)
+Gives see value (Err Memory) = ⊤
+
+-- a value of the program with the formulas of its ids
+abbrev pub shown_in : List Formula → Value → Val Formula
+shown_in ts v = seen ts (value_of v)
+
+-- values one after another
+abbrev pub all_shown_in : List Formula → List Value → Vals Formula
+all_shown_in ts vs = seen_all ts (values_of vs)
+
+-- the pool has each id of the value, and of each of the values
+abbrev pub IsLiveIn : List Formula → Value → Type 0
+IsLiveIn ts v = AreLive ts (value_of v)
+
+abbrev pub AreLiveIn : List Formula → List Value → Type 0
+AreLiveIn ts vs = AreItemsLive ts (values_of vs)
+
+-- the answer is one that the call may come to
+abbrev pub IsCall : Function → List Formula → List Formula → List Value → Result Value EvalFault → Type 0
+IsCall f before now arguments result = Gives (shown_in now) (Calls f (all_shown_in before arguments)) result
