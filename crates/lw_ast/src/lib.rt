@@ -16,5 +16,5 @@ pub use expr::{Expr, Exprs, Terms};
 pub use fault::{ScriptFault, SyntaxWhy};
 pub use function::Function;
 pub use laws::{one_script, one_script_answer, one_script_fault};
-pub use operator::{Op, Relation};
+pub use operator::{Op, Prefix, Relation};
 pub use script::{Block, Script, Stmt, StmtKind};

@@ -5,22 +5,20 @@ use Rattle.lw_ast.specs.declared.function.Function.{Function}
 use Rattle.lw_value.specs.declared.value.Value.{Value}
 use Rattle.lw_value.specs.Values.{Val, Vals, seen, seen_all, AreLive, AreItemsLive}
 use Rattle.lw_value.specs.Views.{value_of, values_of}
-use Rattle.lw_eval.specs.declared.trouble.Trouble.{Trouble}
 use Rattle.lw_eval.specs.declared.fault.EvalFault.{EvalFault}
 use Rattle.lw_eval.specs.declared.fault.EvalFault.TheVariants.{Troubled, Memory}
 use Rattle.lw_eval.specs.Evaluations.{Evaluation, Got, Fails}
 use Rattle.lw_eval.specs.Calls.{Calls}
 
--- the evaluation comes to what was answered, as it is seen
-abbrev pub Comes : {X A : Type 0} → (X → A) → Evaluation A → Result X Trouble → Type 0
-Comes see e (Ok x) = e ≡ Got (see x)
-Comes see e (Err t) = e ≡ Fails t
+-- an evaluation may come to this trouble; want of memory may come in any
+abbrev pub Faults : {A : Type 0} → (Evaluation A → Type 0) → EvalFault → Type 0
+Faults value (Troubled t) = value (Fails t)
+Faults value Memory = ⊤
 
--- an evaluation may come to what was answered, as it is seen; want of memory may come in any
+-- an evaluation may come to what was answered, as it is seen, or to its trouble
 abbrev pub Gives : {X A : Type 0} → (X → A) → (Evaluation A → Type 0) → Result X EvalFault → Type 0
 Gives see value (Ok x) = value (Got (see x))
-Gives see value (Err (Troubled t)) = value (Fails t)
-Gives see value (Err Memory) = ⊤
+Gives see value (Err fault) = Faults value fault
 
 -- a value of the program with the formulas of its ids
 abbrev pub shown_in : List Formula → Value → Val Formula
