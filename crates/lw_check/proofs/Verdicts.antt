@@ -26,10 +26,11 @@ use Rattle.lw_check.specs.declared.verdict.Verdict.TheVariants.{Accepted, Reject
 use Rattle.lw_check.specs.declared.walked.Walked.{Walked}
 use Rattle.lw_check.specs.declared.walked.Walked.TheVariants.{Through, Broken}
 use Rattle.lw_check.specs.Judgement.{verdict_of, IsVerdict, IsAccepted}
-use Rattle.lw_check.specs.Private.ItemSets.{set_of}
+use Rattle.lw_sets.specs.IdSets.{set_of}
 use Rattle.lw_check.specs.Private.ProofWalk.{AreCuts, outcome_of, Tells}
-use Rattle.lw_check.proofs.GrownPools.{Grows-refl, signed_grows, proof_grows, EachPrincipal-weaker}
-use Rattle.lw_check.proofs.IdSets.{Decides_alike}
+use Rattle.lw_pool.proofs.RegionGrowth.{Grows-same}
+use Rattle.lw_sets.proofs.GrownPools.{signed_grows, proof_grows, EachPrincipal-weaker}
+use Rattle.lw_sets.proofs.SetMembers.{Decides_alike}
 
 module _ (old new : List Formula) (grown : Grows old new) (goal : FormId) where
   -- the marks of the goal's subformulas say what may be cut
@@ -59,7 +60,7 @@ module _ (old new : List Formula) (grown : Grows old new) (goal : FormId) where
       items ≡ record { sign = F; form = goal } ∷ [] → Tells L new marks (λ ts. set_of ts items) P 1 outcome →
       outcome ≡ outcome_of (first_break L (tree_at old goal) (proof_at old P)) (1 + lines P)
   whole_outcome L marks items P outcome live proof_live m e told =
-      told (goal_cuts (tree_at old goal)) new 1 (Grows-refl new) (cuts_marked marks m P proof_live) refl
+      told (goal_cuts (tree_at old goal)) new 1 (Grows-same new) (cuts_marked marks m P proof_live) refl
       ∙ (λ i. outcome_of (break_from trees (goal_cuts (tree_at old goal)) L (start items live e i) 1 (proof_grows old new grown P proof_live i)) (1 + lines P))
 
 pub went_through : (b : Option (ℕ × Why)) (m next : ℕ) → Through next ≡ outcome_of b m → Accepted ≡ verdict_of b

@@ -17,10 +17,11 @@ use Rattle.lw_proof.specs.Break.{reason, or_else, at_step, break_from, breaks_fr
 use Rattle.lw_proof.specs.Pooled.{proof_at, IsProofLive}
 use Rattle.lw_check.specs.declared.walked.Walked.{Walked}
 use Rattle.lw_check.specs.declared.walked.Walked.TheVariants.{Through, Broken}
-use Rattle.lw_check.specs.Private.ItemSets.{among, set_of, AreLive}
+use Rattle.lw_sets.specs.IdSets.{among, set_of, AreLive}
 use Rattle.lw_check.specs.Private.LeftSets.{left_by, Leaves}
 use Rattle.lw_check.specs.Private.ProofWalk.{AreCuts, TellsReason, outcome_of, Tells, TellsAll}
-use Rattle.lw_check.proofs.GrownPools.{signed_grows, listed_grows, parts_grow, Grows-trans}
+use Rattle.lw_pool.proofs.RegionGrowth.{Grows-trans}
+use Rattle.lw_sets.proofs.GrownPools.{signed_grows, listed_grows, parts_grow}
 use Rattle.lw_proof.proofs.FirstSubproofs.{each_sub, each_first, count_mapped, forest_mapped, lines_mapped, lines_first, no_member, one_member, two_members}
 
 -- a step that keeps its rule leaves the breaks of the subproofs

@@ -1,4 +1,3 @@
 -- Words that private contracts and proofs alone use.
-pub mod ItemSets
 pub mod LeftSets
 pub mod ProofWalk

@@ -5,16 +5,18 @@ ghost use Rattle.lw_proof.specs.Tree.{subs_of};
 ghost use Rattle.lw_proof.specs.Derivation.{Proves};
 ghost use Rattle.lw_proof.specs.Pooled.{proof_at, IsProofLive};
 ghost use Rattle.lw_check.specs.Judgement.{IsVerdict, IsAccepted};
-ghost use Rattle.lw_check.specs.Private.ItemSets.{set_of, AreLive, with_side, with_each};
+ghost use Rattle.lw_sets.specs.IdSets.{set_of, AreLive, with_side};
+ghost use Rattle.lw_check.specs.Private.LeftSets.{with_each};
 ghost use Rattle.lw_check.specs.Private.ProofWalk.{Tells, TellsAll};
 
-use crate::premise::{add_side, left, stepped};
+use crate::premise::{left, stepped};
 use crate::step::refusal;
 use crate::verdict::Verdict;
 use crate::walked::Walked;
 use lw_formula::{Logic, Parts, Sign};
 use lw_pool::{FormId, Pool, SignedId};
 use lw_proof::{Proof, SignedIds};
+use lw_sets::add_side;
 use std::alloc::{AllocError, Global};
 
 /// Whether the proof proves the goal in the logic, and else the first step that breaks its rule, with the first reason.

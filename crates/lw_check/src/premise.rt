@@ -1,14 +1,14 @@
-ghost use Rattle.std.specs.Prelude.{◌≡◌, length, IsTrue, IfOk, OnOk, IfSome};
+ghost use Rattle.std.specs.Prelude.{◌≡◌, length, IsTrue, IfOk, IfSome};
 ghost use Rattle.lw_pool.specs.Region.{IsLive, Grows, signed_at, parts_at, ArePartsBelow};
 ghost use Rattle.lw_proof.specs.System.{trees};
-ghost use Rattle.lw_proof.specs.Derivation.{side};
 ghost use Rattle.lw_proof.specs.Break.{fits, arity};
-ghost use Rattle.lw_check.specs.Private.ItemSets.{AreLive, AddsAll};
-ghost use Rattle.lw_check.specs.Private.LeftSets.{count_left, Leaves, kept_by, IsCompanion, IsStepSet};
+ghost use Rattle.lw_sets.specs.IdSets.{AreLive};
+ghost use Rattle.lw_check.specs.Private.LeftSets.{count_left, Leaves, IsCompanion, IsStepSet};
 
 use lw_formula::{Logic, Parts};
 use lw_pool::{Pool, SignedId};
 use lw_proof::{Rule, SignedIds};
+use lw_sets::{add_side, kept_items};
 use std::alloc::AllocError;
 
 /// What the step leaves to be closed, as components: for a cut the formula under both signs, else what the item comes
@@ -27,21 +27,6 @@ pub(crate) fn left(pool: &Pool, rule: Rule, item: SignedId) -> Parts<SignedId>
     }
 }
 
-/// Adds one side to the items.
-pub(crate) fn add_side(
-    items: &mut SignedIds,
-    added: (SignedId, Option<SignedId>),
-) -> Result<(), AllocError>
-    ensures { OnOk result (AddsAll items.old items.new (side added.0 added.1)) }
-{
-    let (first, second) = added;
-    items.add(first)?;
-    match second {
-        Some(second) => items.add(second),
-        None => Ok(()),
-    }
-}
-
 /// The set that the step on the π `item`, whose component is `part`, leaves to be closed.
 pub(crate) fn stepped(
     pool: &mut Pool,
@@ -57,12 +42,9 @@ pub(crate) fn stepped(
     ensures live { IfOk result (AreLive pool.new) }
     ensures grows { Grows pool.old pool.new }
 {
-    let mut left = SignedIds::new(items.allocator());
+    let mut left = kept_items(pool, logic, items)?;
     let companion = companion(pool, logic, item)?;
     add_side(&mut left, (part, companion))?;
-    for other in items.as_slice() {
-        keep(&mut left, logic, *other, pool.parts(*other))?;
-    }
     Ok(left)
 }
 
@@ -77,27 +59,5 @@ fn companion(pool: &mut Pool, logic: Logic, item: SignedId) -> Result<Option<Sig
         Logic::K | Logic::KT | Logic::S4 | Logic::S5 => Ok(None),
         Logic::GL => Ok(Some(item.flip())),
         Logic::Grz => pool.guard(item),
-    }
-}
-
-/// Adds what a step keeps on account of one item, which comes to these parts.
-fn keep(
-    left: &mut SignedIds,
-    logic: Logic,
-    item: SignedId,
-    parts: Parts<SignedId>,
-) -> Result<(), AllocError>
-    ensures { OnOk result (AddsAll left.old left.new (kept_by logic item parts)) }
-{
-    match (logic, parts) {
-        (Logic::K | Logic::KT, Parts::Nu(part)) => left.add(part),
-        (Logic::S4 | Logic::S5 | Logic::Grz, Parts::Nu(_)) | (Logic::S5, Parts::Pi(_)) => {
-            left.add(item)
-        }
-        (Logic::GL, Parts::Nu(part)) => {
-            left.add(item)?;
-            left.add(part)
-        }
-        (Logic::K | Logic::KT | Logic::S4 | Logic::S5 | Logic::GL | Logic::Grz, _) => Ok(()),
     }
 }

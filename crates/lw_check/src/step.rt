@@ -6,12 +6,13 @@ ghost use Rattle.lw_proof.specs.Tree.{rule_of, principal_of, subs_of};
 ghost use Rattle.lw_proof.specs.System.{trees};
 ghost use Rattle.lw_proof.specs.Break as breaks;
 ghost use Rattle.lw_proof.specs.Pooled.{IsProofLive};
-ghost use Rattle.lw_check.specs.Private.ItemSets.{set_of, AreLive};
+ghost use Rattle.lw_sets.specs.IdSets.{set_of, AreLive};
 ghost use Rattle.lw_check.specs.Private.ProofWalk.{TellsReason};
 
 use lw_formula::{Logic, Parts, Sign};
 use lw_pool::{FormId, Pool, SignedId};
 use lw_proof::{Proof, Rule, SignedIds, Why, has_cut, has_refl};
+use lw_sets::has;
 
 /// Why the first step of the proof breaks its rule, where the items are to be closed and the marked formulas may be
 /// cut.
@@ -88,16 +89,6 @@ fn present(pool: &Pool, items: &SignedIds, rule: Rule, item: SignedId) -> bool
         Rule::Absurd | Rule::One | Rule::Two | Rule::Refl | Rule::Step => has(pool, items, item),
         Rule::Cut => true,
     }
-}
-
-/// Whether the item is one of these. Ids of one pool are equal exactly where their formulas are.
-fn has(pool: &Pool, items: &SignedIds, item: SignedId) -> bool
-    requires items { AreLive pool.now items.now }
-    requires item { IsLive pool.now item.form }
-    ensures { result ≡ set_of pool.now items.now (signed_at pool.now item) }
-{
-    prove!(item.form.0 < pool.count());
-    items.has(item)
 }
 
 /// Whether a cut, if the rule is one, is on a formula that is marked.

@@ -1,3 +1,8 @@
 pub mod SidePieces
 pub mod StepInterpolants
 pub mod ReadInterpolants
+pub mod ShapedProofs
+pub mod PutSides
+pub mod ReadPremises
+pub mod WalkSteps
+pub mod WalkTurns

@@ -1,7 +1,6 @@
 -- What a step leaves to be closed, by the components of its principal.
 use Rattle.std.specs.Prelude.{◌≡◌, ℕ, List, [], ◌∷◌, Option, option_map}
 use Rattle.lw_formula.specs.declared.logic.Logic.{Logic}
-use Rattle.lw_formula.specs.declared.logic.Logic.TheVariants.{K, KT, S4, S5, GL, Grz}
 use Rattle.lw_formula.specs.declared.parts.Parts.{Parts}
 use Rattle.lw_formula.specs.declared.parts.Parts.TheVariants.{Nothing, One, Two, Nu, Pi}
 use Rattle.lw_formula.specs.Formula.{Formula}
@@ -12,7 +11,7 @@ use Rattle.lw_pool.specs.Region.{Grows, signed_at}
 use Rattle.lw_proof.specs.declared.rule.Rule.{Rule}
 use Rattle.lw_proof.specs.System.{trees}
 use Rattle.lw_proof.specs.Derivation.{side, plus, kept, added, premises}
-use Rattle.lw_check.specs.Private.ItemSets.{set_of}
+use Rattle.lw_sets.specs.IdSets.{set_of, with_side}
 
 -- how many sets are left by components
 abbrev pub count_left : {I : Type 0} → Parts I → ℕ
@@ -34,21 +33,9 @@ left_by L s (Pi c) X = plus trees (added trees L s c) (kept trees L X) ∷ []
 abbrev pub Leaves : Rule → Signed → Parts Signed → Type 0
 Leaves r s p = (L : Logic) (X : SignedSet) → premises trees L r s (parts_of s) X ≡ left_by L s p X
 
--- what a step keeps on account of one member of a set, which comes to p
-abbrev pub kept_by : {I : Type 0} → Logic → I → Parts I → List I
-kept_by K s (Nu c) = c ∷ []
-kept_by K s _ = []
-kept_by KT s (Nu c) = c ∷ []
-kept_by KT s _ = []
-kept_by S4 s (Nu c) = s ∷ []
-kept_by S4 s _ = []
-kept_by S5 s (Nu c) = s ∷ []
-kept_by S5 s (Pi c) = s ∷ []
-kept_by S5 s _ = []
-kept_by GL s (Nu c) = s ∷ c ∷ []
-kept_by GL s _ = []
-kept_by Grz s (Nu c) = s ∷ []
-kept_by Grz s _ = []
+-- their set with the one side, and with the other
+abbrev pub with_each : List SignedId → (SignedId × Option SignedId) × (SignedId × Option SignedId) → List Formula → List SignedSet
+with_each xs sides ts = with_side xs sides.0 ts ∷ with_side xs sides.1 ts ∷ []
 
 -- what the step on x adds beside a component is this, if anything
 abbrev pub IsCompanion : Logic → List Formula → SignedId → Option SignedId → Type 0

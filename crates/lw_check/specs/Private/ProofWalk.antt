@@ -13,7 +13,7 @@ use Rattle.lw_proof.specs.Break.{reason, break_from, breaks_from}
 use Rattle.lw_proof.specs.Pooled.{proof_at}
 use Rattle.lw_check.specs.declared.walked.Walked.{Walked}
 use Rattle.lw_check.specs.declared.walked.Walked.TheVariants.{Through, Broken}
-use Rattle.lw_check.specs.Private.ItemSets.{set_of}
+use Rattle.lw_sets.specs.IdSets.{set_of}
 
 -- the marks say of each principal of the proof whether its formula may be cut
 abbrev pub AreCuts : SignedSet → List Formula → List Bool → Tree SignedId → Type 0

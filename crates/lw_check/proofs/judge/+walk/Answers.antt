@@ -9,11 +9,12 @@ use Rattle.lw_pool.specs.Region.{IsLive, Grows}
 use Rattle.lw_proof.specs.Tree.{principal_of, subs_of}
 use Rattle.lw_proof.specs.Break.{arity}
 use Rattle.lw_check.specs.declared.walked.Walked.TheVariants.{Through}
-use Rattle.lw_check.specs.Private.ItemSets.{set_of, with_side}
+use Rattle.lw_sets.specs.IdSets.{set_of, with_side}
 use Rattle.lw_check.specs.Private.LeftSets.{step_set}
 use Rattle.lw_check.specs.Private.ProofWalk.{Tells, TellsAll}
-use Rattle.lw_check.proofs.GrownPools.{Grows-refl, Grows-trans, IsProofLive_grows, AreLive_grows, AreBothBelow_grows}
-use Rattle.lw_check.proofs.IdSets.{set_of_side}
+use Rattle.lw_pool.proofs.RegionGrowth.{Grows-same, Grows-trans}
+use Rattle.lw_sets.proofs.GrownPools.{IsProofLive_grows, AreLive_grows, AreBothBelow_grows}
+use Rattle.lw_sets.proofs.SetMembers.{set_of_side}
 use Rattle.lw_proof.proofs.FirstSubproofs.{second_member}
 use Rattle.lw_check.proofs.WalkOutcomes.{tells_same, tells_refused, tells_kept, tells_none, tells_one, tells_both, tells_broken}
 use Rattle.lw_check.proofs.judge.+walk.Goals as goal
@@ -86,7 +87,7 @@ walk-returns-in-Nothing-clause-told t c =
     let count : length (subs_of c.args.proof.now) ≡ 0 = c.in_default.ensures.arity ∙ ap arity (sym c.rule.ensures) ∙ sym c.in-Nothing.ensures.count in
     tells_kept c.args.logic c.args.pool.now c.args.cuts.now c.args.items.now c.args.proof.now c.requires.items c.requires.proof
     c.rule.result c.principal.result c.rule.ensures c.principal.ensures c.args.pool.now Nothing c.args.step c.saturating_add-next.result (Through c.saturating_add-next.result)
-    (Grows-refl c.args.pool.now) c.in_default.ensures.reason c.in-Nothing.ensures.live c.in-Nothing.ensures.sets
+    (Grows-same c.args.pool.now) c.in_default.ensures.reason c.in-Nothing.ensures.live c.in-Nothing.ensures.sets
     (λ n e. omega (arith, e, c.saturating_add-next.ensures))
     (tells_none c.args.logic c.args.pool.now c.args.cuts.now c.args.proof.now c.saturating_add-next.result count)
 

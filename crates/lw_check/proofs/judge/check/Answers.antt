@@ -6,7 +6,7 @@ use Rattle.lw_proof.specs.Tree.{lines}
 use Rattle.lw_proof.specs.Break.{first_break}
 use Rattle.lw_proof.specs.Pooled.{proof_at}
 use Rattle.lw_proof.specs.SignedIds.{Adds}
-use Rattle.lw_check.proofs.IdSets.{added_first}
+use Rattle.lw_sets.proofs.SetMembers.{added_first}
 use Rattle.lw_check.proofs.Verdicts.{whole_outcome, accepted_exactly, accepted_is_valid}
 use Rattle.lw_check.proofs.judge.check.Goals as goal
 

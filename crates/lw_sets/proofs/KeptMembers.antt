@@ -1,7 +1,7 @@
 -- What a step keeps of a set is what it keeps on account of each member.
 use Rattle.std.proofs.Common.{◌≡◌, ℕ, ◌+◌, ◌<◌, take, get_or, Bool, true, false, ◌&&◌, ◌||◌, List, [], ◌∷◌, ◌++◌, map, length, Option, None, Some, refl, sym, ap, ◌∙◌}
-use Rattle.std.specs.Option.{option_map, IfSome}
-use Rattle.std.proofs.Math.Bool.{or-false, or_assoc, and-false, and-or_distrib_left}
+use Rattle.std.specs.Option.{IfSome}
+use Rattle.std.proofs.Math.Bool.{or-false, and-false, and-or_distrib_left}
 use Rattle.std.proofs.lemmas.List.{take_more}
 use Rattle.std.proofs.lemmas.List.Elements.{All-nil, All-cons}
 use Rattle.lw_formula.specs.declared.logic.Logic.{Logic}
@@ -15,12 +15,12 @@ use Rattle.lw_formula.specs.Components.{parts_of}
 use Rattle.lw_pool.specs.declared.id.SignedId.{SignedId}
 use Rattle.lw_pool.specs.Region.{IsLive, Grows, signed_at, parts_at, ArePartsBelow}
 use Rattle.lw_proof.specs.System.{trees, same_signed, nu_of}
-use Rattle.lw_proof.specs.Derivation.{side, plus, kept, added, is_nu, is_modal_part}
+use Rattle.lw_proof.specs.Derivation.{side, kept, is_nu, is_modal_part}
 use Rattle.lw_proof.proofs.SignedMeaning.{same_signed-Decides}
-use Rattle.lw_check.specs.Private.ItemSets.{among, set_of, AreLive, AddsAll}
-use Rattle.lw_check.specs.Private.LeftSets.{kept_by}
-use Rattle.lw_check.proofs.GrownPools.{signed_grows, parts_grow}
-use Rattle.lw_check.proofs.IdSets.{set_of-append, set_of-added_all}
+use Rattle.lw_sets.specs.IdSets.{among, set_of, AreLive, AddsAll}
+use Rattle.lw_sets.specs.Private.KeptIds.{kept_by}
+use Rattle.lw_sets.proofs.GrownPools.{signed_grows, parts_grow}
+use Rattle.lw_sets.proofs.SetMembers.{set_of-append, set_of-added_all}
 
 -- the ids that are kept stand for the signed formulas that are kept
 kept_by_at : (ts : List Formula) (L : Logic) (x : SignedId) (p : Parts SignedId) → map (signed_at ts) (kept_by L x p) ≡ kept_by L (signed_at ts x) (parts_at ts p)
@@ -115,22 +115,9 @@ kept_one S5 t s = moved (λ u. is_modal_part (parts_of u)) t s ∙ modal_kept (p
 kept_one GL t s = (λ i. nus_kept t s i || under_one t s i) ∙ both_kept (parts_of t) t s
 kept_one Grz t s = nus_kept t s
 
-side_mapped : (ts : List Formula) (a : SignedId) (o : Option SignedId) → map (signed_at ts) (side a o) ≡ side (signed_at ts a) (option_map (signed_at ts) o)
-side_mapped ts a None = refl
-side_mapped ts a (Some b) = refl
-
--- before the first member: what is added alone
-pub kept_first : (L : Logic) (ts : List Formula) (s : Signed) (a : SignedId) (o : Option SignedId) (left : List SignedId) → AddsAll [] left (side a o) →
-    added trees L s (signed_at ts a) ≡ side (signed_at ts a) (option_map (signed_at ts) o) →
-    set_of ts left ≡ plus trees (added trees L s (signed_at ts a)) (kept trees L (set_of ts []))
-kept_first L ts s a o left e h = λ i u. at_each u i
-  where
-    at_each : (u : Signed) → set_of ts left u ≡ plus trees (added trees L s (signed_at ts a)) (kept trees L (set_of ts [])) u
-    at_each u =
-        set_of-added_all ts [] left (side a o) e u
-        ∙ ap (λ (ds : List Signed). among ds u) (side_mapped ts a o ∙ sym h)
-        ∙ sym (or-false (among (added trees L s (signed_at ts a)) u))
-        ∙ ap (λ b. among (added trees L s (signed_at ts a)) u || b) (sym (kept_none L u))
+-- before the first member
+pub kept_before : (L : Logic) (ts : List Formula) → set_of ts [] ≡ kept trees L (set_of ts [])
+kept_before L ts = λ i s. sym (kept_none L s) i
 
 pub side_live : (now : List Formula) (a : SignedId) (o : Option SignedId) → IsLive now a.form → IfSome o (λ x. IsLive now x.form) → AreLive now (side a o)
 side_live now a None l m = All-cons (λ (x : SignedId). IsLive now x.form) a [] l (All-nil (λ (x : SignedId). IsLive now x.form))
@@ -149,10 +136,10 @@ kept_by_live now Grz x (Nu c) l m = side_live now x None l tt
 kept_by_live now _ x _ l m = All-nil (λ (y : SignedId). IsLive now y.form)
 
 -- one more member
-kept_next : (L : Logic) (ts : List Formula) (cs : List Signed) (left new xs : List SignedId) (x : SignedId) (p : Parts SignedId) →
-    parts_at ts p ≡ parts_of (signed_at ts x) → AddsAll left new (kept_by L x p) → set_of ts left ≡ plus trees cs (kept trees L (set_of ts xs)) →
-    set_of ts new ≡ plus trees cs (kept trees L (set_of ts (xs ++ x ∷ [])))
-kept_next L ts cs left new xs x p e adds h = λ i s. at_each s i
+kept_next : (L : Logic) (ts : List Formula) (left new xs : List SignedId) (x : SignedId) (p : Parts SignedId) →
+    parts_at ts p ≡ parts_of (signed_at ts x) → AddsAll left new (kept_by L x p) → set_of ts left ≡ kept trees L (set_of ts xs) →
+    set_of ts new ≡ kept trees L (set_of ts (xs ++ x ∷ []))
+kept_next L ts left new xs x p e adds h = λ i s. at_each s i
   where
     more_set : set_of ts (xs ++ x ∷ []) ≡ (λ s. set_of ts xs s || same_signed (signed_at ts x) s)
     more_set = λ i s. (set_of-append ts xs (x ∷ []) s ∙ ap (λ b. set_of ts xs s || b) (or-false (same_signed (signed_at ts x) s))) i
@@ -163,21 +150,20 @@ kept_next L ts cs left new xs x p e adds h = λ i s. at_each s i
         ∙ ap (λ (q : Parts Signed). among (kept_by L (signed_at ts x) q) s) e
         ∙ sym (kept_one L (signed_at ts x) s)
 
-    at_each : (s : Signed) → set_of ts new s ≡ plus trees cs (kept trees L (set_of ts (xs ++ x ∷ []))) s
+    at_each : (s : Signed) → set_of ts new s ≡ kept trees L (set_of ts (xs ++ x ∷ [])) s
     at_each s =
         set_of-added_all ts left new (kept_by L x p) adds s
         ∙ (λ i. h i s || of_x s i)
-        ∙ or_assoc (among cs s) (kept trees L (set_of ts xs) s) (kept trees L (same_signed (signed_at ts x)) s)
-        ∙ ap (λ b. among cs s || b) (sym (kept_both L (set_of ts xs) (same_signed (signed_at ts x)) s))
-        ∙ ap (λ (X : SignedSet). among cs s || kept trees L X s) (sym more_set)
+        ∙ sym (kept_both L (set_of ts xs) (same_signed (signed_at ts x)) s)
+        ∙ ap (λ (X : SignedSet). kept trees L X s) (sym more_set)
 
 -- the same at a step of a loop over a list
-pub kept_more : (L : Logic) (now ts : List Formula) → Grows now ts → (cs : List Signed) (left new items : List SignedId) (i : ℕ) (d : SignedId) (p : Parts SignedId) →
+pub kept_more : (L : Logic) (now ts : List Formula) → Grows now ts → (left new items : List SignedId) (i : ℕ) (d : SignedId) (p : Parts SignedId) →
     i < length items → IsLive now (get_or items i d).form → ArePartsBelow (length now) p → parts_at now p ≡ parts_of (signed_at now (get_or items i d)) →
-    AddsAll left new (kept_by L (get_or items i d) p) → set_of ts left ≡ plus trees cs (kept trees L (set_of ts (take i items))) →
-    set_of ts new ≡ plus trees cs (kept trees L (set_of ts (take (i + 1) items)))
-kept_more L now ts g cs left new items i d p below live parts_live parts adds before =
-    kept_next L ts cs left new (take i items) (get_or items i d) p
+    AddsAll left new (kept_by L (get_or items i d) p) → set_of ts left ≡ kept trees L (set_of ts (take i items)) →
+    set_of ts new ≡ kept trees L (set_of ts (take (i + 1) items))
+kept_more L now ts g left new items i d p below live parts_live parts adds before =
+    kept_next L ts left new (take i items) (get_or items i d) p
     (parts_grow now ts g p parts_live ∙ parts ∙ ap parts_of (sym (signed_grows now ts g (get_or items i d) live)))
     adds before
-    ∙ ap (λ (xs : List SignedId). plus trees cs (kept trees L (set_of ts xs))) (sym (take_more items i d below))
+    ∙ ap (λ (xs : List SignedId). kept trees L (set_of ts xs)) (sym (take_more items i d below))

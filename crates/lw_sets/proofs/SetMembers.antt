@@ -2,6 +2,7 @@
 use Rattle.std.proofs.Common.{◌≡◌, ◌↔◌, Bool, true, false, ◌||◌, List, [], ◌∷◌, ◌++◌, length, take, map, inl, inr, Option, None, Some, refl, sym, ap, subst, append_assoc, ◌∙◌}
 use Rattle.std.specs.Bool.{Decides, IsTrue}
 use Rattle.std.specs.List.{Contains, list_any}
+use Rattle.std.specs.Option.{option_map}
 use Rattle.std.proofs.Math.Bool.{or_comm, or_assoc, or-false}
 use Rattle.std.proofs.lemmas.Bool.{false_from_ne_true, or_left, or_right}
 use Rattle.std.proofs.lemmas.List.{map-append, take_at, append-nil}
@@ -18,7 +19,7 @@ use Rattle.lw_proof.specs.Derivation.{side, plus}
 use Rattle.lw_proof.specs.SignedIds.{Adds}
 use Rattle.lw_proof.proofs.SignedIdLists.{id_eq, id_eq-Decides}
 use Rattle.lw_proof.proofs.SignedMeaning.{same_signed-Decides}
-use Rattle.lw_check.specs.Private.ItemSets.{set_of, AreLive, AddsAll, side_at, with_side}
+use Rattle.lw_sets.specs.IdSets.{set_of, AreLive, AddsAll, side_at, with_side}
 
 -- the members of two lists
 pub set_of-append : (ts : List Formula) (xs ys : List SignedId) (s : Signed) → set_of ts (xs ++ ys) s ≡ (set_of ts xs s || set_of ts ys s)
@@ -88,6 +89,10 @@ added_first new x (inr away) = away.1
 side_mapped : (ts : List Formula) (a : SignedId) (b : Option SignedId) → map (signed_at ts) (side a b) ≡ side_at ts (a, b)
 side_mapped ts a None = refl
 side_mapped ts a (Some b) = refl
+
+pub side_parts : (ts : List Formula) (a : SignedId) (o : Option SignedId) → side_at ts (a, o) ≡ side (signed_at ts a) (option_map (signed_at ts) o)
+side_parts ts a None = refl
+side_parts ts a (Some b) = refl
 
 -- a side that is added to a list is added to its set
 pub set_of_side : (ts : List Formula) (old new : List SignedId) (p : SignedId × Option SignedId) → AddsAll old new (side p.0 p.1) → set_of ts new ≡ with_side old p ts

@@ -1,12 +1,13 @@
 -- The sets that lists of ids stand for.
 use Rattle.std.specs.Prelude.{◌≡◌, List, [], ◌∷◌, map, All, Option}
 use Rattle.std.specs.List.{list_any}
+use Rattle.lw_formula.specs.declared.logic.Logic.{Logic}
 use Rattle.lw_formula.specs.Formula.{Formula}
 use Rattle.lw_formula.specs.Signed.{Signed, SignedSet}
 use Rattle.lw_pool.specs.declared.id.SignedId.{SignedId}
-use Rattle.lw_pool.specs.Region.{IsLive, signed_at, both_at}
+use Rattle.lw_pool.specs.Region.{IsLive, Grows, signed_at, both_at}
 use Rattle.lw_proof.specs.System.{trees, same_signed}
-use Rattle.lw_proof.specs.Derivation.{side, plus}
+use Rattle.lw_proof.specs.Derivation.{side, plus, kept}
 use Rattle.lw_proof.specs.SignedIds.{Adds}
 
 -- the set of these
@@ -34,6 +35,6 @@ side_at ts p = side (both_at ts p).0 (both_at ts p).1
 abbrev pub with_side : List SignedId → SignedId × Option SignedId → List Formula → SignedSet
 with_side xs p ts = plus trees (side_at ts p) (set_of ts xs)
 
--- their set with the one side, and with the other
-abbrev pub with_each : List SignedId → (SignedId × Option SignedId) × (SignedId × Option SignedId) → List Formula → List SignedSet
-with_each xs sides ts = with_side xs sides.0 ts ∷ with_side xs sides.1 ts ∷ []
+-- the second list stands for what a step keeps of the set of the first, also in each pool that has grown from this one
+abbrev pub IsKept : Logic → List Formula → List SignedId → List SignedId → Type 0
+IsKept L now xs ys = (ts : List Formula) → Grows now ts → set_of ts ys ≡ kept trees L (set_of ts xs)

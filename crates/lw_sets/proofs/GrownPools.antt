@@ -1,5 +1,5 @@
 -- What is said of ids in a pool stays true in a pool that has grown from it.
-use Rattle.std.proofs.Common.{◌≡◌, List, [], ◌∷◌, length, map, Option, None, Some, refl, ap, ◌∙◌, arith}
+use Rattle.std.proofs.Common.{◌≡◌, List, [], ◌∷◌, length, map, Option, None, Some, refl, ap, arith}
 use Rattle.std.proofs.lemmas.List.Elements.{All-head, All-tail, All-weaker}
 use Rattle.lw_formula.specs.declared.parts.Parts.{Parts}
 use Rattle.lw_formula.specs.declared.parts.Parts.TheVariants.{Nothing, One, Two, Nu, Pi}
@@ -9,19 +9,10 @@ use Rattle.lw_pool.specs.declared.id.FormId.{FormId}
 use Rattle.lw_pool.specs.Region.{IsLive, Grows, signed_at, both_at, parts_at, AreBothBelow, ArePartsBelow}
 use Rattle.lw_proof.specs.Tree.{Tree, Forest, node, none, more, map_forest, EachPrincipal, EachOfAll}
 use Rattle.lw_proof.specs.Pooled.{proof_at, IsProofLive}
-use Rattle.lw_check.specs.Private.ItemSets.{AreLive}
+use Rattle.lw_sets.specs.IdSets.{AreLive}
 
 pub IsLive_grows : (now ts : List Formula) → Grows now ts → (a : FormId) → IsLive now a → IsLive ts a
 IsLive_grows now ts g a l = omega (arith, g.longer, l)
-
-pub Grows-trans : (old now ts : List Formula) → Grows old now → Grows now ts → Grows old ts
-Grows-trans old now ts g h = record {
-  longer = omega (arith, g.longer, h.longer);
-  same = λ a l. h.same a (IsLive_grows old now g a l) ∙ g.same a l;
-}
-
-pub Grows-refl : (ts : List Formula) → Grows ts ts
-Grows-refl ts = record { longer = omega arith; same = λ a l. refl }
 
 pub signed_grows : (now ts : List Formula) → Grows now ts → (x : SignedId) → IsLive now x.form → signed_at ts x ≡ signed_at now x
 signed_grows now ts g x l = λ i. (x.sign, g.same x.form l i)

@@ -1,0 +1,3 @@
+pub mod GrownPools
+pub mod SetMembers
+pub mod KeptMembers

@@ -1,0 +1,9 @@
+//! Sets of signed ids as the sets of signed formulas that a proof goes by: what is in them, what a rule adds, and what a
+//! step to another world keeps.
+#![tactic(auto)]
+
+mod kept;
+mod members;
+
+pub use kept::kept_items;
+pub use members::{add_side, has};
