@@ -38,10 +38,11 @@ module _ (ts : List Formula) (operands : AreOperandsBelow ts) where
       let none : depth (tree_at ts a) ≡ 0 = without_operands (tree_at ts a) (λ c is. let o = operands a live c is in absurd (omega (arith, h, o.1))) in
       omega (arith, none)
   below (suc n) a h live =
-      shallow n (tree_at ts a) (λ c is. let o = operands a live c is in
-          let d : depth (tree_at ts o.0) ≤ n = below n o.0 (omega (arith, h, o.1)) (omega (arith, o.1, live)) in
-          let e : depth (tree_at ts o.0) ≡ depth c = ap depth o.2 in
-          omega (arith, d, e))
+      let within : depth (tree_at ts a) ≤ n + 1 = shallow n (tree_at ts a) (λ c is. let o = operands a live c is in
+      let d : depth (tree_at ts o.0) ≤ n = below n o.0 (omega (arith, h, o.1)) (omega (arith, o.1, live)) in
+      let e : depth (tree_at ts o.0) ≡ depth c = ap depth o.2 in
+      omega (arith, d, e)) in
+      omega (arith, within)
 
 pub depth_fits : (ts : List Formula) (a : FormId) (greatest : ℕ) → AreOperandsBelow ts → IsLive ts a → a.0 ≤ greatest → min (depth (tree_at ts a)) greatest ≡ depth (tree_at ts a)
 depth_fits ts a greatest operands live h = let d : depth (tree_at ts a) ≤ a.0 = below ts operands a.0 a (omega arith) live in omega (arith, d, h)

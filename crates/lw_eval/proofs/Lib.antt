@@ -5,3 +5,5 @@ pub mod EvaluationsRepeated
 pub mod VariablesBound
 pub mod DepthsBelow
 pub mod CallsAnswered
+pub mod VariablesGiven
+pub mod ItemsSeen

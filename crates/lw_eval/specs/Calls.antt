@@ -61,10 +61,14 @@ pub data Translates (a : Formula) : Evaluation (Val Formula) → Type 0 where
   translated : IsIntuitionistic a → Translates a (Got (formula (goedel a)))
   modal : (what : Connective) → IsFirst what a → Translates a (Fails (NotIntuitionistic what))
 
+-- variables of these names, as formulas
+abbrev pub letters_of : List (List ℕ) → List (Val Formula)
+letters_of names = map (λ p. formula (letter p)) names
+
 -- the variables of the formula as formulas, each once, in byte order
 pub data Lists (a : Formula) : Evaluation (Val Formula) → Type 0 where
   lists : {r : Evaluation (Val Formula)} (names : List (List ℕ)) → AreVariables a names →
-      Is (list_of (vals (map (λ p. formula (letter p)) names))) r → Lists a r
+      Is (list_of (vals (letters_of names))) r → Lists a r
 
 -- the n-th item, from 1
 abbrev pub item_at : Vals Formula → ℕ → Evaluation (Val Formula)

@@ -1,19 +1,29 @@
 -- What an answer of the program says of an evaluation, and values of the program as they are seen.
-use Rattle.std.specs.Prelude.{◌≡◌, ⊤, List, Result, Ok, Err}
-use Rattle.lw_formula.specs.Formula.{Formula}
+use Rattle.std.specs.Prelude.{◌≡◌, ◌<◌, ⊤, ℕ, List, Result, Ok, Err}
+use Rattle.lw_formula.specs.declared.logic.Logic.{Logic}
+use Rattle.lw_formula.specs.Formula.{Formula, letter, subformula_count}
+use Rattle.lw_pool.specs.declared.id.FormId.{FormId}
+use Rattle.lw_pool.specs.Region.{tree_at, IsLive}
+use Rattle.lw_closure.specs.declared.fault.TheConstants.{SUBFORMULA_LIMIT}
 use Rattle.lw_ast.specs.declared.function.Function.{Function}
 use Rattle.lw_value.specs.declared.value.Value.{Value}
-use Rattle.lw_value.specs.Values.{Val, Vals, seen, seen_all, AreLive, AreItemsLive}
+use Rattle.lw_value.specs.Values.{Evidence, shown_by, EachShown, certificate, Val, Vals, seen, seen_all, AreLive, AreItemsLive}
 use Rattle.lw_value.specs.Views.{value_of, values_of}
+use Rattle.lw_eval.specs.declared.trouble.Trouble.TheVariants.{TooLarge, Kind}
 use Rattle.lw_eval.specs.declared.fault.EvalFault.{EvalFault}
 use Rattle.lw_eval.specs.declared.fault.EvalFault.TheVariants.{Troubled, Memory}
 use Rattle.lw_eval.specs.Evaluations.{Evaluation, Got, Fails}
-use Rattle.lw_eval.specs.Calls.{Calls}
+use Rattle.lw_eval.specs.Calls.{Certifies, Calls}
 
 -- an evaluation may come to this trouble; want of memory may come in any
 abbrev pub Faults : {A : Type 0} → (Evaluation A → Type 0) → EvalFault → Type 0
 Faults value (Troubled t) = value (Fails t)
 Faults value Memory = ⊤
+
+-- the formula has too many distinct subformulas, so many as the trouble says; or memory ran out
+abbrev pub IsUndecided : Formula → EvalFault → Type 0
+IsUndecided a (Troubled t) = (t ≡ TooLarge (subformula_count a)) × (SUBFORMULA_LIMIT < subformula_count a)
+IsUndecided a Memory = ⊤
 
 -- an evaluation may come to what was answered, as it is seen, or to its trouble
 abbrev pub Gives : {X A : Type 0} → (X → A) → (Evaluation A → Type 0) → Result X EvalFault → Type 0
@@ -38,3 +48,18 @@ AreLiveIn ts vs = AreItemsLive ts (values_of vs)
 -- the answer is one that the call may come to
 abbrev pub IsCall : Function → List Formula → List Formula → List Value → Result Value EvalFault → Type 0
 IsCall f before now arguments result = Gives (shown_in now) (Calls f (all_shown_in before arguments)) result
+
+-- the pool has the evidence, and with it a certificate of the formula is one that may be given
+abbrev pub IsShown : Logic → List Formula → Formula → Evidence FormId → Type 0
+IsShown l ts a e = EachShown (IsLive ts) e × Certifies l a (Got (certificate l a (shown_by (tree_at ts) e)))
+
+-- the formula is no single variable
+abbrev pub IsCompound : Formula → Type 0
+IsCompound (letter p) = ⊥
+IsCompound _ = ⊤
+
+-- the formula is the variable of this name, or no single variable
+abbrev pub IsVariable : Formula → Result (List ℕ) EvalFault → Type 0
+IsVariable a (Ok p) = a ≡ letter p
+IsVariable a (Err (Troubled t)) = (t ≡ Kind) × IsCompound a
+IsVariable a (Err Memory) = ⊤

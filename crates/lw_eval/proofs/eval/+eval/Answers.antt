@@ -166,7 +166,7 @@ eval-returns-in_ok-arguments-in-Call-clause-value t c =
     evaluated _ (variables_seen c.args.pool.now c.args.env.now) _ _ _
     (ap expression c.in-Call.is ∙ ap expression (sym (shape.rolls-Call c.in-Call.function c.in-Call.arguments)) ∙ built (Expr-F.Call c.in-Call.function c.in-Call.arguments))
     (bind_gives _ _ _ _ _ c.in_ok-arguments-in-Call.ensures.value
-        (called c.eval_all-in-Call.new.pool c.call.new.pool c.in-Call.function c.as_slice.result.now _ _ c.as_slice.ensures c.call.ensures.value))
+    (called c.eval_all-in-Call.new.pool c.call.new.pool c.in-Call.function c.as_slice.result.now _ _ c.as_slice.ensures c.call.ensures.value))
 
 pub eval_test-returns-in_err-eval-clause-value : goal.eval_test-returns-in_err-eval-clause-value
 eval_test-returns-in_err-eval-clause-value t c =
