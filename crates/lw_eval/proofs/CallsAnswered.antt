@@ -1,9 +1,10 @@
 -- What is found of the arguments is what the rows of functions say.
-use Rattle.std.proofs.Common.{◌≡◌, sym, ap, ◌<◌, ◌≤◌, ℕ, List, length}
+use Rattle.std.proofs.Common.{◌≡◌, ◌∙◌, sym, ap, ◌<◌, ◌≤◌, ℕ, List, [], ◌∷◌, ◌++◌, length, true, Result, Ok, Err}
 use Rattle.lw_formula.specs.declared.sign.Sign.{Sign}
 use Rattle.lw_formula.specs.declared.logic.Logic.{Logic}
 use Rattle.lw_formula.specs.Signed.{Signed}
-use Rattle.lw_formula.specs.Formula.{Formula, subformula_count}
+use Rattle.lw_formula.specs.Formula.{Formula, impl, subformula_count}
+use Rattle.lw_formula.specs.Variables.{AreVariables}
 use Rattle.lw_formula.specs.Validity.{Valid, Refutes}
 use Rattle.lw_model.specs.Bounds.{IsWithinBounds, HasShortChains}
 use Rattle.lw_pool.specs.declared.id.FormId.{FormId}
@@ -26,13 +27,21 @@ use Rattle.lw_fix.specs.FixFaults.{IsWithinLimit, box_limit}
 use Rattle.lw_trans.specs.declared.connective.Connective.{Connective}
 use Rattle.lw_trans.specs.Connectives.{IsIntuitionistic, IsFirst}
 use Rattle.lw_trans.specs.Translations.{goedel}
-use Rattle.lw_value.specs.Values.{Evidence, proved, refuted, Val, formula, certificate, seen, AreLive}
+use Rattle.lw_interp.specs.Interpolant.{has_interpolants}
+use Rattle.lw_ast.specs.declared.function.Function.TheVariants.{Append}
+use Rattle.lw_value.specs.declared.value.Items.{Items}
+use Rattle.lw_value.specs.declared.value.Value.{Value}
+use Rattle.lw_value.specs.declared.value.Value.TheVariants as kind
+use Rattle.lw_value.specs.Views.{value_of}
+use Rattle.lw_value.specs.Values.{Evidence, proved, refuted, Val, Vals, vals, formula, certificate, naught, seen, seen_all, AreLive}
 use Rattle.lw_eval.specs.declared.trouble.Trouble.TheVariants.{NotModalised, TooManyBoxes, NotIntuitionistic}
-use Rattle.lw_eval.specs.Evaluations.{Evaluation, Got, Fails}
+use Rattle.lw_eval.specs.Evaluations.{Evaluation, Got, Fails, Is}
 use Rattle.lw_eval.specs.declared.fault.EvalFault.{EvalFault}
 use Rattle.lw_eval.specs.declared.fault.EvalFault.TheVariants.{Troubled, Memory}
-use Rattle.lw_eval.specs.Private.Given.{Faults, IsUndecided, IsShown}
-use Rattle.lw_eval.specs.Calls.{Decided, Certifies, Fixes, Translates}
+use Rattle.lw_eval.specs.Private.Given.{Faults, Gives, IsCall, IsUndecided, IsShown, shown_in}
+use Rattle.lw_eval.specs.Calls.{Decided, Certifies, Interpolates, Supported, Fixes, Translates, Lists, letters_of}
+use Rattle.lw_eval.specs.Operators.{list_of}
+use Rattle.lw_eval.proofs.ItemsSeen.{list_with_last}
 
 pub goedel_of : (a x : Formula) → x ≡ goedel a → IsIntuitionistic a → Translates a (Got (formula x))
 goedel_of a x p h = rw p (Translates.translated h)
@@ -87,3 +96,54 @@ certificate_live l a ts v f e p live h = rw p (live, h.0)
 
 pub modal_formula : (a : Formula) (what : Connective) → IsFirst what a → Translates a (Fails (NotIntuitionistic what))
 modal_formula a what h = Translates.modal what h
+
+-- a logic that has interpolants here
+pub supported_faults : (l : Logic) (answer : Evaluation (Val Formula) → Type 0) (fault : EvalFault) → has_interpolants l ≡ true → Faults answer fault → Faults (Supported l answer) fault
+supported_faults l answer (Troubled t) p h = Supported.supported p h
+supported_faults l answer Memory p h = tt
+
+pub decided_gives : (a : Formula) (ts : List Formula) (answer : Evaluation (Val Formula) → Type 0) (r : Result Value EvalFault) → subformula_count a ≤ SUBFORMULA_LIMIT →
+    Gives (shown_in ts) answer r → Gives (shown_in ts) (Decided a answer) r
+decided_gives a ts answer (Ok v) few h = Decided.decided few h
+decided_gives a ts answer (Err (Troubled t)) few h = Decided.decided few h
+decided_gives a ts answer (Err Memory) few h = tt
+
+pub supported_gives : (l : Logic) (ts : List Formula) (answer : Evaluation (Val Formula) → Type 0) (r : Result Value EvalFault) → has_interpolants l ≡ true →
+    Gives (shown_in ts) answer r → Gives (shown_in ts) (Supported l answer) r
+supported_gives l ts answer (Ok v) p h = Supported.supported p h
+supported_gives l ts answer (Err (Troubled t)) p h = Supported.supported p h
+supported_gives l ts answer (Err Memory) p h = tt
+
+-- what is read off an answer
+pub no_interpolant : (l : Logic) (a b : Formula) (answer : Answer) (m : FiniteModel) (w : ℕ) → answer ≡ No m w → TellsValidity l (impl a b) answer → Interpolates l a b (Got naught)
+no_interpolant l a b answer m w p h = Interpolates.none (no_tells l (impl a b) answer m w p h)
+
+pub lean_answer : (l : Logic) (ts : List Formula) (a : Formula) (answer : Answer) (P : Tree SignedId) → answer ≡ Yes P → IsAnswerTo l ts a answer → Lean l (proof_at ts P) a
+lean_answer l ts a answer P p h = let k : IsProofLive ts P × Lean l (proof_at ts P) a = rw p at h in k.1
+
+-- the variables of a formula, as a list
+pub listed : (a : Formula) (ts : List Formula) (names : List (List ℕ)) (vs : Vals Formula) (r : Result Value EvalFault) → AreVariables a names → vs ≡ vals (letters_of names) →
+    Gives (shown_in ts) (Is (list_of vs)) r → Gives (shown_in ts) (Lists a) r
+listed a ts names vs (Ok v) h p k = Lists.lists names h (k ∙ ap list_of p)
+listed a ts names vs (Err (Troubled t)) h p k = Lists.lists names h (k ∙ ap list_of p)
+listed a ts names vs (Err Memory) h p k = tt
+
+same_list : (ts : List Formula) (vs ws : Vals Formula) (r : Result Value EvalFault) → ws ≡ vs → Gives (shown_in ts) (Is (list_of ws)) r → Gives (shown_in ts) (Is (list_of vs)) r
+same_list ts vs ws r p h = rw (sym p) h
+
+-- a list with one more value behind it
+pub appended : (ts : List Formula) (list last : Value) (before : Items) (old new : List (Val FormId)) (w : Val FormId) (r : Result Value EvalFault) → list ≡ kind.Items before →
+    old ≡ before → w ≡ value_of last → new ≡ old ++ w ∷ [] → Gives (shown_in ts) (Is (list_of (seen_all ts (vals new)))) r → IsCall Append ts ts (list ∷ last ∷ []) r
+appended ts list last before old new w r p q s t h =
+    rw p (same_list ts _ (seen_all ts (vals new)) r (list_with_last ts before new (value_of last) w (t ∙ ap (λ vs. vs ++ w ∷ []) q) s) h)
+
+-- what is said of a formula is said of one that is equal
+pub few_of : (a b : Formula) → b ≡ a → subformula_count b ≤ SUBFORMULA_LIMIT → subformula_count a ≤ SUBFORMULA_LIMIT
+few_of a b p h = rw (sym p) h
+
+pub undecided_of : (a b : Formula) (fault : EvalFault) → b ≡ a → IsUndecided b fault → IsUndecided a fault
+undecided_of a b fault p h = rw (sym p) h
+
+pub interpolates_of : (l : Logic) (ts : List Formula) (a b c d : Formula) (r : Result Value EvalFault) → c ≡ a → d ≡ b →
+    Gives (shown_in ts) (Interpolates l c d) r → Gives (shown_in ts) (Interpolates l a b) r
+interpolates_of l ts a b c d r p q h = rw (sym p, sym q) h

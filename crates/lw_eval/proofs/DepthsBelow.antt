@@ -1,5 +1,5 @@
 -- No formula of a pool is deeper than the place at which it stands.
-use Rattle.std.proofs.Common.{◌≡◌, sym, refl, ap, ℕ, suc, zero, ◌+◌, ◌<◌, ◌≤◌, ◌⊎◌, inl, inr, max, min, List, arith}
+use Rattle.std.proofs.Common.{◌≡◌, refl, ap, ℕ, suc, zero, ◌+◌, ◌≤◌, inl, inr, min, List, arith}
 use Rattle.lw_formula.specs.Formula.{Formula, letter, falsum, verum, neg, conj, disj, impl, equi, nec, poss, depth, IsOperand}
 use Rattle.lw_pool.specs.declared.id.FormId.{FormId}
 use Rattle.lw_pool.specs.Region.{tree_at, IsLive, AreOperandsBelow}

@@ -1,5 +1,5 @@
 -- An evaluation that follows on another, and the answers that say what it comes to.
-use Rattle.std.proofs.Common.{◌≡◌, sym, ap, refl, List, map, Result, Ok, Err, IsErrAnd, Bool, true, false}
+use Rattle.std.proofs.Common.{◌≡◌, sym, refl, List, map, Result, Ok, Err, IsErrAnd, Bool, true, false}
 use Rattle.std.proofs.lemmas.Bool.{false≢true}
 use Rattle.std.proofs.lemmas.Result.{err_from_is_err_and}
 use Rattle.lw_formula.specs.Formula.{Formula}
@@ -11,7 +11,7 @@ use Rattle.lw_value.specs.Values.{Val, vals, seen_all, truth}
 use Rattle.lw_value.specs.Views.{value_of}
 use Rattle.lw_eval.specs.declared.fault.EvalFault.{EvalFault}
 use Rattle.lw_eval.specs.declared.fault.EvalFault.TheVariants.{Troubled, Memory}
-use Rattle.lw_eval.specs.Evaluations.{Evaluation, Got, Fails, Bind}
+use Rattle.lw_eval.specs.Evaluations.{Evaluation, Got, Bind}
 use Rattle.lw_eval.specs.Evaluations.Bind.{fails, goes}
 use Rattle.lw_eval.specs.Operators.{Tests, Both, Either}
 use Rattle.lw_eval.specs.Calls.{Calls}

@@ -1,5 +1,5 @@
 -- Expressions one after another, and sums and products operand by operand.
-use Rattle.std.proofs.Common.{◌≡◌, ◌∙◌, sym, ap, refl, ◌+◌, ◌*◌, ◌<◌, ◌≤◌, ℕ, zero, suc, List, [], ◌∷◌, ◌++◌, map, Option, Some, None, Result, arith}
+use Rattle.std.proofs.Common.{◌≡◌, ◌∙◌, sym, ap, refl, ◌+◌, ◌<◌, ℕ, zero, suc, List, [], ◌∷◌, ◌++◌, Option, Some, None, arith}
 use Rattle.lw_formula.specs.Formula.{Formula}
 use Rattle.lw_pool.specs.declared.id.FormId.{FormId}
 use Rattle.lw_ast.specs.declared.operator.Op.{Op}
@@ -10,7 +10,7 @@ use Rattle.lw_value.specs.Values.{Val, Vals, vals, seen, seen_all, AreLive, AreI
 use Rattle.lw_eval.specs.declared.fault.EvalFault.{EvalFault}
 use Rattle.lw_eval.specs.declared.fault.EvalFault.TheVariants.{Troubled, Memory}
 use Rattle.lw_eval.specs.declared.trouble.Trouble.{Trouble}
-use Rattle.lw_eval.specs.Evaluations.{Evaluation, Got, Fails, Bind, Pair}
+use Rattle.lw_eval.specs.Evaluations.{Evaluation, Got, Fails, Pair}
 use Rattle.lw_eval.specs.Evaluations.Bind.{fails, goes}
 use Rattle.lw_eval.specs.Operators.{Calculates}
 use Rattle.lw_eval.specs.Expressions.{Variables, Eval, Evals, Chain}

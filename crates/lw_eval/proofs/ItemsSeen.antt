@@ -1,15 +1,16 @@
 -- The items of a list, as they are seen.
-use Rattle.std.proofs.Common.{◌≡◌, ◌∙◌, sym, refl, ap, ℕ, zero, suc, ◌+◌, ◌-◌, ◌<◌, ◌≤◌, List, [], ◌∷◌, ◌++◌, length, map, Option, Some, None, slice_get, arith}
+use Rattle.std.proofs.Common.{◌≡◌, ◌∙◌, sym, refl, ap, ℕ, zero, suc, ◌+◌, ◌-◌, ◌<◌, ◌≤◌, List, [], ◌∷◌, ◌++◌, length, drop, get_or, Option, Some, None, slice_get, arith}
+use Rattle.std.proofs.lemmas.List.{drop_all}
 use Rattle.lw_formula.specs.Formula.{Formula, letter}
 use Rattle.lw_pool.specs.declared.id.FormId.{FormId}
 use Rattle.lw_pool.specs.Region.{tree_at}
-use Rattle.lw_value.specs.Values.{Val, Vals, vals, seen, seen_all, AreLive, AreItemsLive, formula, empty, item}
+use Rattle.lw_value.specs.Values.{Val, Vals, vals, seen, seen_all, AreLive, AreItemsLive, formula, item}
 use Rattle.lw_value.specs.ValueTexts.{count_of}
 use Rattle.lw_eval.specs.declared.trouble.Trouble.TheVariants.{Range}
 use Rattle.lw_eval.specs.Evaluations.{Got, Fails}
-use Rattle.lw_eval.specs.Calls.{item_at, with_last}
+use Rattle.lw_eval.specs.Calls.{item_at, with_last, letters_of}
 use Rattle.lw_eval.specs.Private.Remaining.{followed_by}
-use Rattle.lw_eval.proofs.EvaluationsRepeated.{followed_by_one}
+use Rattle.lw_eval.proofs.EvaluationsRepeated.{followed_by_one, followed_by_none}
 
 pub count_seen : (ts : List Formula) (vs : List (Val FormId)) → count_of (seen_all ts (vals vs)) ≡ length vs
 count_seen ts [] = refl
@@ -65,3 +66,19 @@ pub next_letter : (before now : List Formula) (old new : List (Val FormId)) (a :
     seen_all now (vals old) ≡ seen_all before (vals old) → tree_at now a ≡ letter name →
     followed_by (seen_all now (vals new)) rest ≡ followed_by (seen_all before (vals old)) (item (formula (letter name)) rest)
 next_letter before now old new a name rest p q r = rw (p, followed_by_one now old (formula a) rest, q, r) refl
+
+-- the next name before those that are left
+left_names : (i : ℕ) (names : List (List ℕ)) (d : List ℕ) → i < length names → drop i names ≡ get_or names i d ∷ drop (suc i) names
+left_names i [] d h = absurd (omega (arith, h))
+left_names zero (x ∷ names) d h = refl
+left_names (suc i) (x ∷ names) d h = left_names i names d (omega (arith, h))
+
+pub left_letters : (before : Vals Formula) (i : ℕ) (names : List (List ℕ)) (d name : List ℕ) → i < length names → name ≡ get_or names i d →
+    followed_by before (item (formula (letter name)) (vals (letters_of (drop (i + 1) names)))) ≡ followed_by before (vals (letters_of (drop i names)))
+left_letters before i names d name h p =
+    let q : suc i ≡ i + 1 = omega arith in
+    ap (λ n. followed_by before (item (formula (letter n)) (vals (letters_of (drop (i + 1) names))))) p
+    ∙ sym (ap (λ ns. followed_by before (vals (letters_of ns))) (left_names i names d h ∙ ap (λ k. get_or names i d ∷ drop k names) q))
+
+pub all_letters : (before all : Vals Formula) (i : ℕ) (names : List (List ℕ)) → length names ≤ i → followed_by before (vals (letters_of (drop i names))) ≡ all → before ≡ all
+all_letters before all i names h p = sym (followed_by_none before) ∙ ap (λ ns. followed_by before (vals (letters_of ns))) (sym (drop_all i names h)) ∙ p

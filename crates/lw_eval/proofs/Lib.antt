@@ -7,3 +7,4 @@ pub mod DepthsBelow
 pub mod CallsAnswered
 pub mod VariablesGiven
 pub mod ItemsSeen
+pub mod ArgumentsCounted

@@ -1,12 +1,12 @@
 -- What a script variable has, as it is seen.
-use Rattle.std.proofs.Common.{◌≡◌, ◌∙◌, ap, sym, ℕ, List, Option, Some, None}
+use Rattle.std.proofs.Common.{◌≡◌, ◌∙◌, ap, sym, ℕ, List, Some, None}
 use Rattle.lw_formula.specs.Formula.{Formula}
 use Rattle.lw_pool.specs.declared.id.FormId.{FormId}
 use Rattle.lw_value.specs.Values.{Val, seen}
 use Rattle.lw_value.specs.Assignments.{value_at, variables_seen}
 use Rattle.lw_value.proofs.VariablesSeen.{value_at_found, value_at_unbound}
 use Rattle.lw_eval.specs.declared.trouble.Trouble.TheVariants.{Unbound}
-use Rattle.lw_eval.specs.Evaluations.{Evaluation, Got, Fails}
+use Rattle.lw_eval.specs.Evaluations.{Got, Fails}
 use Rattle.lw_eval.specs.Operators.{bound}
 
 pub found : (ts : List Formula) (ps : List (List ℕ × Val FormId)) (x : List ℕ) (v w : Val FormId) → Some v ≡ value_at ps x → w ≡ v →

@@ -4,8 +4,7 @@ use Rattle.std.proofs.lemmas.Bool.Decides.{nat_tests}
 use Rattle.std.below.core.specs.declared.int.usize.TheConstants.{MAX}
 use Rattle.lw_formula.specs.Formula.{Formula}
 use Rattle.lw_pool.specs.declared.id.FormId.{FormId}
-use Rattle.lw_pool.specs.Region.{tree_at}
-use Rattle.lw_value.specs.Values.{Val, Vals, seen, seen_all, vals, weight, weights, formula, truth, number, text, items, logic, certificate, naught, empty, item}
+use Rattle.lw_value.specs.Values.{Val, Vals, seen, seen_all, weight, weights, formula, truth, number, text, items, logic, certificate, naught, empty, item}
 use Rattle.std.specs.Prelude.{if◌then◌else◌}
 use Rattle.lw_eval.specs.declared.trouble.Trouble.TheVariants.{Range}
 use Rattle.lw_eval.specs.Evaluations.{Got, Fails}

@@ -1,5 +1,5 @@
-use Rattle.std.proofs.Common.{rules, ◌≡◌, ◌∙◌, ap, sym, ◌*◌, ◌+◌, arith, refl, Bool, true, false, not}
-use Rattle.lw_eval.specs.Evaluations.Bind.{goes, fails}
+use Rattle.std.proofs.Common.{◌∙◌, ap, sym, arith, refl}
+use Rattle.lw_eval.specs.Evaluations.Bind.{goes}
 use Rattle.lw_ast.specs.declared.operator.Prefix.TheVariants as sign
 use Rattle.lw_ast.specs.declared.operator.Series.TheVariants as series
 use Rattle.lw_ast.specs.declared.operator.Link.TheVariants as link

@@ -1,4 +1,4 @@
-use Rattle.std.proofs.Common.{◌*◌, ◌+◌, ◌≤◌}
+use Rattle.std.proofs.Common.{◌*◌, ◌+◌}
 use Rattle.lw_formula.specs.Formula.{Formula}
 use Rattle.lw_pool.specs.Region.{Grows}
 use Rattle.lw_ast.specs.ScriptViews.{expression, expressions, operands}
