@@ -1,8 +1,12 @@
 //! The meaning of scripts, and the evaluator that keeps it.
 #![tactic(auto)]
 
+mod at_line;
 mod eval;
 mod fault;
+mod line_stub;
+mod run_fault;
 mod trouble;
 
+pub use run_fault::RunFault;
 pub use trouble::Trouble;
