@@ -1,1 +1,2 @@
 pub mod TroublesAtLines
+pub mod EvidenceKept

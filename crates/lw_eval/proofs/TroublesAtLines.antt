@@ -1,10 +1,10 @@
 -- An evaluation's trouble comes at the line of its statement.
-use Rattle.std.proofs.Common.{◌≡◌, ℕ, Result, Ok, Err, refl, sym, subst}
+use Rattle.std.proofs.Common.{ℕ, Result, Ok, Err, refl, sym, subst}
 use Rattle.lw_eval.specs.declared.fault.EvalFault.{EvalFault}
 use Rattle.lw_eval.specs.declared.fault.EvalFault.TheVariants.{Troubled, Memory}
 use Rattle.lw_eval.specs.declared.run_fault.RunFault.{RunFault}
 use Rattle.lw_eval.specs.declared.run_fault.RunFault.TheVariants as fault
-use Rattle.lw_eval.specs.Evaluations.{Evaluation, Got, Fails, Bind, fails, goes}
+use Rattle.lw_eval.specs.Evaluations.{Evaluation, Got, Bind, fails, goes}
 use Rattle.lw_eval.specs.Private.Given.{Gives}
 use Rattle.lw_eval.specs.Private.Carried.{GivesAt, IsFaultAt}
 

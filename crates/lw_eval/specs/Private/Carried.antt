@@ -1,9 +1,9 @@
 -- What the answers of the functions that carry out a part of a run say of it, and what is left of it in a loop.
-use Rattle.std.specs.Prelude.{◌≡◌, ◌≢◌, ℕ, zero, suc, List, [], ◌++◌, Option, Result, Ok, Err, ⊤, OnOk}
+use Rattle.std.specs.Prelude.{◌≡◌, ℕ, zero, suc, List, [], ◌++◌, Option, Result, Ok, Err, ⊤, OnOk}
 use Rattle.lw_formula.specs.Formula.{Formula}
 use Rattle.lw_io.specs.Output.{Adds}
 use Rattle.lw_ast.specs.Trees.{Statements, over, then}
-use Rattle.lw_value.specs.Values.{Vals, EachFormula, empty, item}
+use Rattle.lw_value.specs.Values.{Vals}
 use Rattle.lw_value.specs.Evidence.{Shows, EachOfCertificates}
 use Rattle.lw_eval.specs.declared.fault.EvalFault.{EvalFault}
 use Rattle.lw_eval.specs.declared.fault.EvalFault.TheVariants.{Troubled, Memory}
@@ -11,7 +11,7 @@ use Rattle.lw_eval.specs.declared.run_fault.RunFault.{RunFault}
 use Rattle.lw_eval.specs.declared.run_fault.RunFault.TheVariants as fault
 use Rattle.lw_eval.specs.Evaluations.{Evaluation, Got, Fails}
 use Rattle.lw_eval.specs.Expressions.{Variables}
-use Rattle.lw_eval.specs.Runs.{Act, End, Done, Cut}
+use Rattle.lw_eval.specs.Runs.{Act, End, Cut}
 use Rattle.lw_eval.specs.Ran.{IsEnd}
 
 -- a run of a part from these steps, as an answer tells it; only where all was carried out the steps are told
