@@ -230,7 +230,7 @@ turns_keep : (line : ℕ) (x : List ℕ) (body : Act) → Keeps body → (vs : V
 turns_keep line x body a empty haves env k after k2 out end Nothing.nothing have = have
 turns_keep line x body a (item v vs) haves env k after k2 out end run have =
     then_keeps _ _ (step_keeps line (λ e. body (put e x v)) (λ e j after j2 out end r h. a _ _ _ _ _ _ r (put_evidence e x v h haves.0)))
-        (turns_keep line x body a vs haves.1) env k after k2 out end run have
+    (turns_keep line x body a vs haves.1) env k after k2 out end run have
 
 repeats_keep : (line : ℕ) (test : Variables → Evaluation Bool → Type 0) (body : Act) → Keeps body → Keeps (Repeats line test body)
 repeats_keep line test body a env k after k2 out end Repeats.cut have = have

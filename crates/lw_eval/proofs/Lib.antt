@@ -1,2 +1,4 @@
 pub mod TroublesAtLines
 pub mod EvidenceKept
+pub mod OutputAdded
+pub mod RunsCarried

@@ -21,3 +21,9 @@ pub given_fault : {A B : Type 0} (line : ℕ) (first : Evaluation A → Type 0) 
     → Gives (λ (x : A). x) first (Err e) → IsFaultAt line e f → GivesAt line (λ (x : B). x) (Bind first second) (Err f)
 given_fault line first second (Troubled t) f fails-with is = subst (λ g. GivesAt line (λ x. x) (Bind first second) (Err g)) (sym is) (refl, fails fails-with)
 given_fault line first second Memory f fails-with is = subst (λ g. GivesAt line (λ x. x) (Bind first second) (Err g)) (sym is) tt
+
+-- the evaluation's fault at its line
+pub fault_given : {A : Type 0} (line : ℕ) (value : Evaluation A → Type 0) (e : EvalFault) (f : RunFault)
+    → Gives (λ (x : A). x) value (Err e) → IsFaultAt line e f → GivesAt line (λ (x : A). x) value (Err f)
+fault_given line value (Troubled t) f gives is = subst (λ g. GivesAt line (λ x. x) value (Err g)) (sym is) (refl, gives)
+fault_given line value Memory f gives is = subst (λ g. GivesAt line (λ x. x) value (Err g)) (sym is) tt

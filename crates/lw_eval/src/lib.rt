@@ -5,6 +5,7 @@ mod at_line;
 mod eval;
 mod fault;
 mod line_stub;
+mod print;
 mod run_fault;
 mod trouble;
 
