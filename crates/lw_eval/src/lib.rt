@@ -6,8 +6,11 @@ mod eval;
 mod fault;
 mod line_stub;
 mod print;
+mod run;
 mod run_fault;
+mod step;
 mod trouble;
 
+pub use run::run_script;
 pub use run_fault::RunFault;
 pub use trouble::Trouble;

@@ -1,5 +1,5 @@
 -- What the answers of the functions that carry out a part of a run say of it, and what is left of it in a loop.
-use Rattle.std.specs.Prelude.{◌≡◌, ℕ, zero, suc, List, [], ◌++◌, Option, Result, Ok, Err, ⊤, OnOk}
+use Rattle.std.specs.Prelude.{◌≡◌, ◌+◌, ◌<◌, ◌≤◌, ℕ, zero, suc, List, [], ◌++◌, Option, Result, Ok, Err, ⊤, OnOk}
 use Rattle.lw_formula.specs.Formula.{Formula}
 use Rattle.lw_io.specs.Output.{Adds}
 use Rattle.lw_ast.specs.Trees.{Statements, over, then}
@@ -9,9 +9,10 @@ use Rattle.lw_eval.specs.declared.fault.EvalFault.{EvalFault}
 use Rattle.lw_eval.specs.declared.fault.EvalFault.TheVariants.{Troubled, Memory}
 use Rattle.lw_eval.specs.declared.run_fault.RunFault.{RunFault}
 use Rattle.lw_eval.specs.declared.run_fault.RunFault.TheVariants as fault
+use Rattle.lw_eval.specs.declared.trouble.Trouble.TheVariants.{StepLimit}
 use Rattle.lw_eval.specs.Evaluations.{Evaluation, Got, Fails}
 use Rattle.lw_eval.specs.Expressions.{Variables}
-use Rattle.lw_eval.specs.Runs.{Act, End, Cut}
+use Rattle.lw_eval.specs.Runs.{step_limit, Act, End, Cut}
 use Rattle.lw_eval.specs.Ran.{IsEnd}
 
 -- a run of a part from these steps, as an answer tells it; only where all was carried out the steps are told
@@ -56,3 +57,8 @@ statements_from (suc i) (then s ss) = statements_from i ss
 -- each certificate in the values shows its formula or refutes it
 abbrev pub HaveItemsEvidence : Vals Formula → Type 0
 HaveItemsEvidence vs = EachOfCertificates Shows vs
+
+-- a step is taken where one is left, else the run ends at the line
+abbrev pub IsStepTaken : ℕ → ℕ → ℕ → Result ⊤ RunFault → Type 0
+IsStepTaken line k next (Ok _) = (k < step_limit) × (next ≡ k + 1)
+IsStepTaken line k next (Err f) = (step_limit ≤ k) × (next ≡ k) × (f ≡ fault.Stopped line StepLimit)
