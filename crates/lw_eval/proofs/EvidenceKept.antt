@@ -226,11 +226,14 @@ prints_keeps line vs env k after k2 out end (Prints.whole _ _) have = have
 prints_keeps line vs env k after k2 out end (Prints.part _ _ _ _) have = have
 prints_keeps line vs env k after k2 out end (Prints.too_long _) have = have
 
+-- a turn keeps it where its value has evidence
+pub turn_keeps : (line : ℕ) (x : List ℕ) (v : Val Formula) (body : Act) → Keeps body → HasEvidence v → Keeps (Step line (λ env. body (put env x v)))
+turn_keeps line x v body a has = step_keeps line (λ env. body (put env x v)) (λ env k after k2 out end run have. a _ _ _ _ _ _ run (put_evidence env x v have has))
+
 turns_keep : (line : ℕ) (x : List ℕ) (body : Act) → Keeps body → (vs : Vals Formula) → HaveItemsEvidence vs → Keeps (Turns line x body vs)
 turns_keep line x body a empty haves env k after k2 out end Nothing.nothing have = have
 turns_keep line x body a (item v vs) haves env k after k2 out end run have =
-    then_keeps _ _ (step_keeps line (λ e. body (put e x v)) (λ e j after j2 out end r h. a _ _ _ _ _ _ r (put_evidence e x v h haves.0)))
-    (turns_keep line x body a vs haves.1) env k after k2 out end run have
+    then_keeps _ _ (turn_keeps line x v body a haves.0) (turns_keep line x body a vs haves.1) env k after k2 out end run have
 
 repeats_keep : (line : ℕ) (test : Variables → Evaluation Bool → Type 0) (body : Act) → Keeps body → Keeps (Repeats line test body)
 repeats_keep line test body a env k after k2 out end Repeats.cut have = have

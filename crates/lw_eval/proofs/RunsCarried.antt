@@ -10,9 +10,12 @@ use Rattle.lw_value.specs.Assignments.{put}
 use Rattle.lw_eval.specs.declared.run_fault.RunFault.{RunFault}
 use Rattle.lw_eval.specs.declared.run_fault.RunFault.TheVariants as fault
 use Rattle.lw_eval.specs.declared.trouble.Trouble.{Trouble}
+use Rattle.lw_eval.specs.declared.trouble.Trouble.TheVariants.{StepLimit}
 use Rattle.lw_eval.specs.Evaluations.{Evaluation, Got, Fails}
 use Rattle.lw_eval.specs.Expressions.{Variables}
-use Rattle.lw_eval.specs.Runs.{step_limit, Act, End, Done, Stopped, Cut, Nothing, Then, Step, With, Assigns, Prints, Repeats}
+use Rattle.lw_ast.specs.Trees as tree
+use Rattle.lw_ast.specs.Trees.{Kind, Statement, Statements}
+use Rattle.lw_eval.specs.Runs.{step_limit, Turns, Does, DoesStep, Run, Act, End, Done, Stopped, Cut, Nothing, Then, Step, With, Assigns, Prints, Repeats}
 use Rattle.lw_eval.specs.Ran.{IsEnd}
 use Rattle.lw_eval.specs.Private.Carried.{Carries, OrCut, Leads, GivesAt}
 use Rattle.lw_eval.proofs.OutputAdded.{adds_nothing, adds_both}
@@ -20,6 +23,9 @@ use Rattle.lw_eval.proofs.OutputAdded.{adds_nothing, adds_both}
 -- the end of a run that isn't carried out isn't Done
 cut_is_not_done : (end : End) → end ≡ Cut → end ≢ Done
 cut_is_not_done end is done = absurd (cc)
+
+pub cut_not_done : Cut ≢ Done
+cut_not_done = cut_is_not_done Cut refl
 
 stop_is_not_done : (end : End) (line : ℕ) (t : Trouble) → end ≡ Stopped line t → end ≢ Done
 stop_is_not_done end line t is done = absurd (cc)
@@ -144,7 +150,7 @@ leads_last whole rest before here after k j steps w now last r l c =
       counts = c.counts;
     }
 
-carries_nothing : (env : Variables) (k : ℕ) (w : Option (List ℕ)) → Carries Nothing env k env k w w (Ok tt)
+pub carries_nothing : (env : Variables) (k : ℕ) (w : Option (List ℕ)) → Carries Nothing env k env k w w (Ok tt)
 carries_nothing env k w = record { taken = k; out = []; end = Done; run = Nothing.nothing; adds = adds_nothing w; ends = refl; counts = refl }
 
 -- nothing is left to do
@@ -207,3 +213,34 @@ module _ (line : ℕ) (test : Variables → Evaluation Bool → Type 0) (body : 
       leads_on whole body (Repeats line test body) (Repeats line test body) before here after k j i steps w now last
       (λ out run env k2 more end again. Repeats.turn holds below (subst (λ n. body here n after steps out Done) next run) again refl) l
       (subst (λ (e : Variables). Carries body e j after steps now last (Ok tt)) same c)
+
+-- no step is left
+pub carries_limit : (act : Act) (before after : Variables) (k steps line : ℕ) (f : RunFault) (w : Option (List ℕ)) → act before k before k [] (Stopped line StepLimit)
+    → f ≡ fault.Stopped line StepLimit → after ≡ before → Carries act before k after steps w w (Err f)
+carries_limit act before after k steps line f w run is same =
+    subst (λ g. Carries act before k after steps w w (Err g)) (sym is) (carries_trouble act before after k steps line StepLimit w run same)
+
+-- the last part of the whole
+pub leads_final : (whole first : Act) (before here after : Variables) (k j steps : ℕ) (w now last : Option (List ℕ)) (r : Result ⊤ RunFault)
+    → Leads whole (Then first Nothing) before k here j w now → Carries first here j after steps now last r → Carries whole before k after steps w last r
+leads_final whole first before here after k j steps w now last (Ok tt) l c =
+    leads_over whole before after k steps w last (leads_next whole first Nothing before here after k j steps w now last l c)
+leads_final whole first before here after k j steps w now last (Err f) l c = leads_stop whole first Nothing before here after k j steps w now last f l c
+
+-- the act is this one
+pub carries_kind : (line : ℕ) (s kind : Kind) (before after : Variables) (k steps : ℕ) (w now : Option (List ℕ)) (r : Result ⊤ RunFault)
+    → kind ≡ s → Carries (OrCut (Does line s)) before k after steps w now r → Carries (OrCut (Does line kind)) before k after steps w now r
+carries_kind line s kind before after k steps w now r is c = subst (λ (q : Kind). Carries (OrCut (Does line q)) before k after steps w now r) (sym is) c
+
+pub carries_statement : (line : ℕ) (kind : Kind) (s : Statement) (before after : Variables) (k steps : ℕ) (w now : Option (List ℕ)) (r : Result ⊤ RunFault)
+    → s ≡ tree.at line kind → Carries (Step line (Does line kind)) before k after steps w now r → Carries (DoesStep s) before k after steps w now r
+carries_statement line kind s before after k steps w now r is c = subst (λ (q : Statement). Carries (DoesStep q) before k after steps w now r) (sym is) c
+
+-- what is left of statements, and of turns, is this
+pub leads_statements : (whole : Act) (ss rest : Statements) (before here : Variables) (k j : ℕ) (w now : Option (List ℕ))
+    → ss ≡ rest → Leads whole (Run ss) before k here j w now → Leads whole (Run rest) before k here j w now
+leads_statements whole ss rest before here k j w now is l = subst (λ (q : Statements). Leads whole (Run q) before k here j w now) is l
+
+pub leads_turns : (whole : Act) (line : ℕ) (x : List ℕ) (body : Act) (vs rest : Vals Formula) (before here : Variables) (k j : ℕ) (w now : Option (List ℕ))
+    → vs ≡ rest → Leads whole (Turns line x body vs) before k here j w now → Leads whole (Turns line x body rest) before k here j w now
+leads_turns whole line x body vs rest before here k j w now is l = subst (λ (q : Vals Formula). Leads whole (Turns line x body q) before k here j w now) is l

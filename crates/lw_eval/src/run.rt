@@ -5,7 +5,6 @@ ghost use Rattle.lw_ast.specs.ScriptViews.{expression, statement, statements, ki
 ghost use Rattle.lw_value.specs.Values.{vals, seen_all, AreItemsLive};
 ghost use Rattle.lw_value.specs.Evidence.{HasEvidence, HaveEvidence};
 ghost use Rattle.lw_value.specs.Assignments.{put, variables_seen, AreVariablesLive};
-
 ghost use Rattle.lw_eval.specs.Runs.{step_limit, Step, With, Turns, Repeats, Condition, Choice, Bounds, ListOf, Does, DoesStep, Run, numbers_from};
 ghost use Rattle.lw_eval.specs.Ran.{Ran};
 ghost use Rattle.lw_eval.specs.Private.Given.{IsLiveIn, shown_in};
@@ -241,12 +240,32 @@ fn turns_to<K: Sink>(
         return Ok(());
     }
     for number in from..to {
-        match turn(alloc, line, name, Value::Number(number), body, pool, env, sink, steps) {
+        match turn(
+            alloc,
+            line,
+            name,
+            Value::Number(number),
+            body,
+            pool,
+            env,
+            sink,
+            steps,
+        ) {
             Ok(()) => {}
             Err(fault) => return Err(fault),
         }
     }
-    turn(alloc, line, name, Value::Number(to), body, pool, env, sink, steps)
+    turn(
+        alloc,
+        line,
+        name,
+        Value::Number(to),
+        body,
+        pool,
+        env,
+        sink,
+        steps,
+    )
 }
 
 /// Takes a turn for each item of the list that the expression comes to.
@@ -346,7 +365,7 @@ fn repeat<K: Sink>(
     ensures cause { IsErrOf result RunFault.SinkFailed → Rose (K.faults sink.old) (K.faults sink.new) }
     ensures later { K.faults sink.old ≤ K.faults sink.new }
 {
-    loop {
+    'turns: loop {
         match test_at(alloc, line, test, pool, env) {
             Ok(true) => {}
             Ok(false) => return Ok(()),

@@ -13,8 +13,8 @@ use Rattle.lw_eval.proofs.step.assign.Goals as goal
 pub returns-in-Ok-set-clause-run : goal.returns-in-Ok-set-clause-run
 returns-in-Ok-set-clause-run c = λ k w. carries_does _ _ _ k k w w _
     (carries_value c.args.line (λ env. Eval env (expression c.args.expr.now)) (Assigns c.args.name.now) (shown_in c.value_at.new.pool c.in-Ok.value) _ _ _ k k w w _ c.in-Ok.ensures.value c.in-Ok.ensures.same
-      (carries_assigned c.args.name.now (shown_in c.value_at.new.pool c.in-Ok.value) _ _ k w
-        (ap (variables_seen c.value_at.new.pool) c.in-Ok-set.ensures.set ∙ put_seen c.value_at.new.pool c.args.env.now c.args.name.now (value_of c.in-Ok.value))))
+    (carries_assigned c.args.name.now (shown_in c.value_at.new.pool c.in-Ok.value) _ _ k w
+    (ap (variables_seen c.value_at.new.pool) c.in-Ok-set.ensures.set ∙ put_seen c.value_at.new.pool c.args.env.now c.args.name.now (value_of c.in-Ok.value))))
 
 pub returns-in-Ok-set-clause-live : goal.returns-in-Ok-set-clause-live
 returns-in-Ok-set-clause-live c = subst (AreVariablesLive c.value_at.new.pool) (sym c.in-Ok-set.ensures.set)
