@@ -2,3 +2,4 @@ pub mod ValueCode
 pub mod KeptWeight
 pub mod LighterItems
 pub mod LengthsLeft
+pub mod Likeness

@@ -3,9 +3,12 @@
 #![tactic(auto)]
 
 mod env;
+mod equality;
 mod length;
 mod value;
+mod walk;
 
 pub use env::Env;
-pub use length::measured;
+pub use equality::{are_equal, is_comparable};
+pub use length::{measured, measured_line};
 pub use value::{Items, Value, weight};
