@@ -8,3 +8,5 @@ pub mod EvidenceSeen
 pub mod ValuesTaken
 pub mod LikeValues
 pub mod CertificatesWaiting
+pub mod CertificateWritten
+pub mod TextsWritten

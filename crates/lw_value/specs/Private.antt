@@ -3,3 +3,4 @@ pub mod KeptWeight
 pub mod LighterItems
 pub mod LengthsLeft
 pub mod Likeness
+pub mod TextsLeft

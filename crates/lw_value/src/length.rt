@@ -1,10 +1,11 @@
 ghost use Rattle.std.specs.Prelude.{◌≡◌, ◌+◌, ◌-◌, ◌*◌, ◌++◌, length, min, map, IfOk, OnOk, IfSome, IfNone, [], ◌<◌};
 ghost use Rattle.std.specs.Fmt.{decimal};
 ghost use Rattle.lw_value.specs.Values.{AreLive, AreItemsLive, seen, seen_all};
-ghost use Rattle.lw_value.specs.ValueTexts.{measure_of, line_measure, truth_text};
+ghost use Rattle.lw_value.specs.ValueTexts.{measure_of, line_measure};
 ghost use Rattle.lw_value.specs.Views.{value_of, values_of};
 ghost use Rattle.lw_value.specs.Private.LengthsLeft.{own_length};
 
+use crate::text::truth_text;
 use crate::value::Value;
 use crate::walk::push_items;
 use lw_pool::Pool;
@@ -65,11 +66,4 @@ fn own_length(alloc: Global, pool: &Pool, value: &Value) -> Result<usize, AllocE
         Value::Certificate(certificate) => text_length(alloc, pool, certificate.formula),
         Value::Nothing => Ok(4),
     }
-}
-
-/// The word that stands for the truth value.
-fn truth_text(truth: bool) -> &'static str
-    ensures { result.now ≡ truth_text truth }
-{
-    if truth { "yes" } else { "no" }
 }
