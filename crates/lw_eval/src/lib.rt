@@ -4,7 +4,6 @@
 mod at_line;
 mod eval;
 mod fault;
-mod line_stub;
 mod print;
 mod run;
 mod run_fault;

@@ -14,14 +14,13 @@ ghost use Rattle.lw_eval.specs.Private.Carried.{Carries, OrCut};
 
 use crate::at_line::at_line;
 use crate::eval::eval_all;
-use crate::line_stub::{line_text, measured_line};
 use crate::run_fault::RunFault;
 use crate::trouble::Trouble;
 use lw_ast::Exprs;
 use lw_io::{Failed, Sink};
 use lw_pool::Pool;
 use lw_read::LONGEST_TEXT;
-use lw_value::{Env, Value};
+use lw_value::{Env, Value, line_text, measured_line};
 use std::alloc::Global;
 
 /// Writes the line of what the expressions come to. The pool is left as it was found.
