@@ -1,4 +1,4 @@
-ghost use Rattle.std.specs.Prelude.{◌≡◌, ◌≤◌, ◌<◌, ℕ, length, OnOk, OnErr, IsErrOf};
+ghost use Rattle.std.specs.Prelude.{◌≡◌, ◌≢◌, ◌+◌, ◌-◌, ◌≤◌, ◌<◌, ℕ, length, slice_index, OnOk, OnErr, IsErrOf};
 ghost use Rattle.lw_formula.specs.Formula.{Formula};
 ghost use Rattle.lw_pool.specs.Region.{Grows};
 ghost use Rattle.lw_io.specs.Causes.{Rose};
@@ -125,6 +125,8 @@ fn line_end(text: &[u8], at: usize) -> usize
     requires { at < length text.now }
     ensures behind { at < result }
     ensures within { result ≤ length text.now }
+    ensures line { (k : ℕ) → at ≤ k → k + 1 < result → slice_index text.now k ≢ 10 }
+    ensures feed { result < length text.now → slice_index text.now (result - 1) ≡ 10 }
 {
     for i in at..text.len() {
         if text[i] == b'\n' {

@@ -21,7 +21,11 @@ use lw_pool::Pool;
 use lw_value::{Env, Items, Value};
 use std::alloc::Global;
 
-/// Carries out the script.
+/// Carries out the script with these variables, from no steps, and writes to the sink what its print statements print.
+/// `Stopped` comes with the trouble that ends the run, at the line of the statement that was at work, from 1. `SinkFailed`
+/// comes where the sink failed to take a piece of what was printed, and `Memory` for want of memory: the run was cut then.
+/// After each of them the variables and what was written are those of the run up to there. A print statement leaves no
+/// formulas in the pool.
 pub fn run_script<K: Sink>(
     alloc: Global,
     script: &Script,

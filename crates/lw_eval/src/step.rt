@@ -15,7 +15,7 @@ use lw_pool::Pool;
 use lw_value::Env;
 use std::alloc::Global;
 
-/// The steps of a run.
+/// How many steps a run may take: one for each statement, and one for each turn.
 const STEP_LIMIT: u64 = 1_000_000;
 
 /// Takes a step at this line, where one is left.
