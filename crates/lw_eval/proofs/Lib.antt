@@ -7,3 +7,9 @@ pub mod DepthsBelow
 pub mod CallsAnswered
 pub mod VariablesGiven
 pub mod ItemsSeen
+pub mod TroublesAtLines
+pub mod EvidenceKept
+pub mod OutputAdded
+pub mod RunsCarried
+pub mod StatementsSeen
+pub mod TurnsLeft
