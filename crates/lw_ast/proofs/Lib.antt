@@ -8,3 +8,5 @@ mod ScriptsCounted
 mod ScriptReader
 mod FirstScriptFaults
 mod ScriptLists
+mod LongNames
+mod StrayTokens

@@ -6,11 +6,16 @@ mod expr;
 mod fault;
 mod function;
 mod laws;
+mod onward;
+mod opening;
+mod operand;
 mod operator;
 mod part;
 mod script;
+mod stack;
 mod state;
 mod statement;
+mod word;
 
 pub use expr::{Expr, Exprs, Terms};
 pub use fault::{ScriptFault, SyntaxWhy};
