@@ -10,3 +10,5 @@ mod FirstScriptFaults
 mod ScriptLists
 mod LongNames
 mod StrayTokens
+mod LinesAhead
+mod StackWeights

@@ -16,7 +16,7 @@ use Rattle.lw_ast.specs.declared.part.Part.TheVariants as part
 use Rattle.lw_ast.specs.Trees.{Expression, Statements, variable, no_more}
 use Rattle.lw_ast.specs.ScriptLexemes.{ScriptLexeme, Atom, Upper, Foreign, name_sign}
 use Rattle.lw_ast.specs.ScriptGrammar.{chain_level}
-use Rattle.lw_ast.specs.Private.ScriptMachine.{Frame, Linked, Setting, Enclosing, State, Need, Astray, where_fits, is_chained, chain, sign_level, go_on, leave, leave_all, open_call, state, name, loop, loop_name}
+use Rattle.lw_ast.specs.Private.ScriptMachine.{Frame, Linked, Setting, Enclosing, Need, Astray, where_fits, is_chained, chain, sign_level, go_on, leave, leave_all, open_call, name, loop, loop_name}
 use Rattle.lw_ast.specs.Private.ReaderViews.{lexeme, frame, frames}
 
 -- a word is a script variable, a propositional variable or foreign

@@ -1,4 +1,4 @@
-use Rattle.std.proofs.Common.{◌≡◌, ℕ, List, sym, subst}
+use Rattle.std.proofs.Common.{ℕ, List, sym, subst}
 use Rattle.std.proofs.lemmas.Result.{IfOk-weaker, IfErr-weaker}
 use Rattle.lw_ast.specs.ScriptViews.{expression}
 use Rattle.lw_ast.specs.Private.ScriptMachine.{go_on, leave_all}
