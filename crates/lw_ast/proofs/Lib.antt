@@ -8,3 +8,7 @@ mod ScriptsCounted
 mod ScriptReader
 mod FirstScriptFaults
 mod ScriptLists
+mod LongNames
+mod StrayTokens
+mod LinesAhead
+mod StackWeights

@@ -5,4 +5,5 @@ pub mod Calls
 pub mod Expressions
 pub mod Runs
 pub mod Outputs
+pub mod Ran
 pub mod Private

@@ -1,6 +1,7 @@
 //! The meaning of scripts, and the evaluator that keeps it.
 #![tactic(auto)]
 
+mod at_line;
 mod call;
 mod deciding;
 mod eval;
@@ -12,7 +13,13 @@ mod leaf;
 mod listing;
 mod measure;
 mod operator;
+mod print;
 mod replacing;
+mod run;
+mod run_fault;
+mod step;
 mod trouble;
 
+pub use run::run_script;
+pub use run_fault::RunFault;
 pub use trouble::Trouble;

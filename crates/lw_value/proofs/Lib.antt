@@ -5,3 +5,8 @@ pub mod LoadsJoined
 pub mod ValuesWaiting
 pub mod VariablesSeen
 pub mod EvidenceSeen
+pub mod ValuesTaken
+pub mod LikeValues
+pub mod CertificatesWaiting
+pub mod CertificateWritten
+pub mod TextsWritten

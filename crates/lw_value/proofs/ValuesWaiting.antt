@@ -14,7 +14,7 @@ under-append [] ys = refl
 under-append (x ∷ xs) ys = ap (λ vs. value_of x.now ∷ vs) (under-append xs ys)
 
 module _ (before rest : List (Bor Value)) (v : Bor Value) (last : before ≡ rest ++ v ∷ []) where
-  under-last : values_under before ≡ values_under rest ++ value_of v.now ∷ []
+  pub under-last : values_under before ≡ values_under rest ++ value_of v.now ∷ []
   under-last = ap values_under last ∙ under-append rest (v ∷ [])
 
   pub live-under : (ts : List Formula) → AreAllLive ts (values_under before) → AreLive ts (value_of v.now)

@@ -1,11 +1,13 @@
 ghost use Rattle.std.specs.Prelude.{◌≡◌, ◌+◌, ◌-◌, ◌*◌, ◌++◌, length, min, map, IfOk, OnOk, IfSome, IfNone, [], ◌<◌};
 ghost use Rattle.std.specs.Fmt.{decimal};
-ghost use Rattle.lw_value.specs.Values.{AreLive, seen};
-ghost use Rattle.lw_value.specs.ValueTexts.{measure_of, truth_text};
-ghost use Rattle.lw_value.specs.Views.{value_of};
-ghost use Rattle.lw_value.specs.Private.LengthsLeft.{own_length, values_under, items_of};
+ghost use Rattle.lw_value.specs.Values.{AreLive, AreItemsLive, seen, seen_all};
+ghost use Rattle.lw_value.specs.ValueTexts.{measure_of, line_measure};
+ghost use Rattle.lw_value.specs.Views.{value_of, values_of};
+ghost use Rattle.lw_value.specs.Private.LengthsLeft.{own_length};
 
+use crate::text::truth_text;
 use crate::value::Value;
+use crate::walk::push_items;
 use lw_pool::Pool;
 use lw_read::{LONGEST_TEXT, text_length};
 use std::alloc::{AllocError, Global};
@@ -30,6 +32,19 @@ pub fn measured(alloc: Global, pool: &Pool, value: &Value) -> Result<usize, Allo
     Ok(total)
 }
 
+/// The measured length of the line that is printed of the values, or 1,048,577 where it is greater: theirs and the
+/// spaces between them, in bytes. It fails for want of memory alone.
+pub fn measured_line(alloc: Global, pool: &Pool, values: &[Value]) -> Result<usize, AllocError>
+    requires { AreItemsLive pool.now (values_of values.now) }
+    ensures { IfOk result (λ len. len ≡ min (line_measure (seen_all pool.now (values_of values.now))) (LONGEST_TEXT + 1)) }
+{
+    let mut total = values.len().saturating_sub(1);
+    for value in values {
+        total = total.saturating_add(measured(alloc, pool, value)?);
+    }
+    Ok(total.min(LONGEST_TEXT + 1))
+}
+
 /// The length of the value's text without its items', or the greatest `usize` where it is longer.
 fn own_length(alloc: Global, pool: &Pool, value: &Value) -> Result<usize, AllocError>
     requires { AreLive pool.now (value_of value.now) }
@@ -51,23 +66,4 @@ fn own_length(alloc: Global, pool: &Pool, value: &Value) -> Result<usize, AllocE
         Value::Certificate(certificate) => text_length(alloc, pool, certificate.formula),
         Value::Nothing => Ok(4),
     }
-}
-
-/// The word that stands for the truth value.
-fn truth_text(truth: bool) -> &'static str
-    ensures { result.now ≡ truth_text truth }
-{
-    if truth { "yes" } else { "no" }
-}
-
-/// Puts the items, if it is a list, behind what is left.
-fn push_items<'a>(value: &'a Value, left: &mut Vec<&'a Value>) -> Result<(), AllocError>
-    ensures { OnOk result (values_under left.new.items ≡ values_under left.old.items ++ items_of (value_of value.now)) }
-{
-    if let Value::Items(items) = value {
-        for item in items.as_slice() {
-            left.push(item)?;
-        }
-    }
-    Ok(())
 }

@@ -3,9 +3,14 @@
 #![tactic(auto)]
 
 mod env;
+mod equality;
 mod length;
+mod text;
 mod value;
+mod walk;
 
 pub use env::Env;
-pub use length::measured;
+pub use equality::{are_equal, is_comparable};
+pub use length::{measured, measured_line};
+pub use text::{line_text, value_text};
 pub use value::{Items, Value, weight};

@@ -1,6 +1,6 @@
 -- The machine that reads scripts token by token. Only private contracts speak of it: that it does what the grammar says
 -- is proved.
-use Rattle.std.specs.Prelude.{ℕ, suc, ◌+◌, nat_eq, nat_le, nat_lt, if◌then◌else◌, List, [], ◌∷◌, length, sum_by}
+use Rattle.std.specs.Prelude.{ℕ, suc, Bool, true, false, ◌+◌, nat_eq, nat_le, nat_lt, if◌then◌else◌, List, [], ◌∷◌, length, sum_by}
 use Rattle.lw_read.specs.Machine.{Machine}
 use Rattle.lw_read.specs.Constructs.{Constructs, reduce}
 use Rattle.lw_ast.specs.declared.operator.Op.{Op}
@@ -138,6 +138,12 @@ abbrev pub chain : Series → Op → Expression → List Frame → Setting → S
 chain Sum s a (Linked Sum b bs t ∷ fs) p = Need (Linked Sum b (add bs t a) s ∷ fs) p
 chain Product s a (Linked Product b bs t ∷ fs) p = Need (Linked Product b (add bs t a) s ∷ fs) p
 chain k s a fs p = where_fits (chain_level k) fs (Need (Linked k a no_more s ∷ fs) p)
+
+-- whether the innermost construct is such a sum or product
+abbrev pub is_chained : Series → List Frame → Bool
+is_chained Sum (Linked Sum b bs t ∷ fs) = true
+is_chained Product (Linked Product b bs t ∷ fs) = true
+is_chained k fs = false
 
 abbrev pub close : Expression → List Frame → Setting → State
 close a (Bracket ∷ fs) p = Have a fs p

@@ -3,7 +3,7 @@ use Rattle.std.proofs.lemmas.List.{take_all}
 use Rattle.lw_value.specs.Views.{value_of}
 use Rattle.lw_value.specs.Private.LengthsLeft.{values_under}
 use Rattle.lw_value.proofs.ValuesWaiting.{put-items}
-use Rattle.lw_value.proofs.length.push_items.Goals as goal
+use Rattle.lw_value.proofs.walk.push_items.Goals as goal
 
 pub returns-after-loop-item : goal.returns-after-loop-item
 returns-after-loop-item c =
