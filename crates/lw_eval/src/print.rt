@@ -3,12 +3,13 @@ ghost use Rattle.lw_formula.specs.Formula.{Formula};
 ghost use Rattle.lw_pool.specs.Region.{Grows};
 ghost use Rattle.lw_io.specs.Causes.{Rose};
 ghost use Rattle.lw_io.specs.Output.{Adds, AddsPart};
+ghost use Rattle.lw_ast.specs.Trees as tree;
 ghost use Rattle.lw_ast.specs.ScriptViews.{expressions};
 ghost use Rattle.lw_value.specs.Evidence.{HaveEvidence, HaveWorlds};
 ghost use Rattle.lw_value.specs.Assignments.{variables_seen, AreVariablesLive};
 ghost use Rattle.lw_value.specs.Views.{values_of};
-ghost use Rattle.lw_eval.specs.Expressions.{Variables, Evals};
-ghost use Rattle.lw_eval.specs.Runs.{With, Prints};
+ghost use Rattle.lw_eval.specs.Expressions.{Variables};
+ghost use Rattle.lw_eval.specs.Runs.{Does, Prints};
 ghost use Rattle.lw_eval.specs.Private.Given.{AreLiveIn, all_shown_in};
 ghost use Rattle.lw_eval.specs.Private.Carried.{Carries, OrCut};
 
@@ -34,7 +35,7 @@ pub fn print<K: Sink>(
 ) -> Result<(), RunFault>
     requires live { AreVariablesLive pool.old env.now }
     requires evidence { HaveEvidence (variables_seen pool.old env.now) }
-    ensures run { (k : ℕ) → Carries (OrCut (With line (λ env. Evals env (expressions exprs.now)) (Prints line)))
+    ensures run { (k : ℕ) → Carries (OrCut (Does line (tree.print (expressions exprs.now))))
         (variables_seen pool.old env.now) k (variables_seen pool.old env.now) k (K.written sink.old) (K.written sink.new) result }
     ensures same { pool.new ≡ pool.old }
     ensures cause { IsErrOf result RunFault.SinkFailed → Rose (K.faults sink.old) (K.faults sink.new) }
@@ -57,7 +58,7 @@ fn print_values<K: Sink>(
 ) -> Result<(), RunFault>
     requires live { AreVariablesLive pool.old env.now }
     requires evidence { HaveEvidence (variables_seen pool.old env.now) }
-    ensures run { (k : ℕ) → Carries (OrCut (With line (λ env. Evals env (expressions exprs.now)) (Prints line)))
+    ensures run { (k : ℕ) → Carries (OrCut (Does line (tree.print (expressions exprs.now))))
         (variables_seen pool.old env.now) k (variables_seen pool.old env.now) k (K.written sink.old) (K.written sink.new) result }
     ensures grows { Grows pool.old pool.new }
     ensures cause { IsErrOf result RunFault.SinkFailed → Rose (K.faults sink.old) (K.faults sink.new) }

@@ -1,6 +1,7 @@
 ghost use Rattle.std.specs.Prelude.{◌≡◌, ◌≤◌, ◌<◌, ◌+◌, ◌-◌, IsErrOf, IfOk};
 ghost use Rattle.lw_pool.specs.Region.{Grows};
 ghost use Rattle.lw_io.specs.Causes.{Rose};
+ghost use Rattle.lw_ast.specs.Trees as tree;
 ghost use Rattle.lw_ast.specs.ScriptViews.{expression, statement, statements, kind};
 ghost use Rattle.lw_value.specs.Values.{vals, seen_all, AreItemsLive};
 ghost use Rattle.lw_value.specs.Evidence.{HasEvidence, HaveEvidence};
@@ -60,8 +61,8 @@ fn run_block<K: Sink>(
     requires live { AreVariablesLive pool.old env.old }
     requires evidence { HaveEvidence (variables_seen pool.old env.old) }
     requires steps { steps.old ≤ step_limit }
-    ensures run { Carries (Run (statements block.now)) (variables_seen pool.old env.old) steps.old (variables_seen pool.new env.new) steps.new
-        (K.written sink.old) (K.written sink.new) result }
+    ensures run { Carries (Run (statements block.now))
+        (variables_seen pool.old env.old) steps.old (variables_seen pool.new env.new) steps.new (K.written sink.old) (K.written sink.new) result }
     ensures live { AreVariablesLive pool.new env.new }
     ensures grows { Grows pool.old pool.new }
     ensures steps { steps.new ≤ step_limit }
@@ -91,8 +92,8 @@ fn run_stmt<K: Sink>(
     requires live { AreVariablesLive pool.old env.old }
     requires evidence { HaveEvidence (variables_seen pool.old env.old) }
     requires steps { steps.old ≤ step_limit }
-    ensures run { Carries (DoesStep (statement stmt.now)) (variables_seen pool.old env.old) steps.old (variables_seen pool.new env.new) steps.new
-        (K.written sink.old) (K.written sink.new) result }
+    ensures run { Carries (DoesStep (statement stmt.now))
+        (variables_seen pool.old env.old) steps.old (variables_seen pool.new env.new) steps.new (K.written sink.old) (K.written sink.new) result }
     ensures live { AreVariablesLive pool.new env.new }
     ensures grows { Grows pool.old pool.new }
     ensures steps { steps.new ≤ step_limit }
@@ -120,8 +121,8 @@ fn do_stmt<K: Sink>(
     requires live { AreVariablesLive pool.old env.old }
     requires evidence { HaveEvidence (variables_seen pool.old env.old) }
     requires steps { steps.old ≤ step_limit }
-    ensures run { Carries (OrCut (Does line (kind stmt.now))) (variables_seen pool.old env.old) steps.old (variables_seen pool.new env.new) steps.new
-        (K.written sink.old) (K.written sink.new) result }
+    ensures run { Carries (OrCut (Does line (kind stmt.now)))
+        (variables_seen pool.old env.old) steps.old (variables_seen pool.new env.new) steps.new (K.written sink.old) (K.written sink.new) result }
     ensures live { AreVariablesLive pool.new env.new }
     ensures grows { Grows pool.old pool.new }
     ensures steps { steps.new ≤ step_limit }
@@ -161,9 +162,8 @@ fn choose<K: Sink>(
     requires live { AreVariablesLive pool.old env.old }
     requires evidence { HaveEvidence (variables_seen pool.old env.old) }
     requires steps { steps.old ≤ step_limit }
-    ensures run { Carries (OrCut (With line (Condition (expression test.now)) (Choice (Run (statements first.now)) (Run (statements second.now)))))
-        (variables_seen pool.old env.old) steps.old (variables_seen pool.new env.new) steps.new
-        (K.written sink.old) (K.written sink.new) result }
+    ensures run { Carries (OrCut (Does line (tree.choose (expression test.now) (statements first.now) (statements second.now))))
+        (variables_seen pool.old env.old) steps.old (variables_seen pool.new env.new) steps.new (K.written sink.old) (K.written sink.new) result }
     ensures live { AreVariablesLive pool.new env.new }
     ensures grows { Grows pool.old pool.new }
     ensures steps { steps.new ≤ step_limit }
@@ -195,10 +195,8 @@ fn count_up<K: Sink>(
     requires live { AreVariablesLive pool.old env.old }
     requires evidence { HaveEvidence (variables_seen pool.old env.old) }
     requires steps { steps.old ≤ step_limit }
-    ensures run { Carries (OrCut (With line (Bounds (expression from.now) (expression to.now))
-        (λ n. Turns line name.now (Run (statements body.now)) (numbers_from n.0 (n.1 + 1 - n.0)))))
-        (variables_seen pool.old env.old) steps.old (variables_seen pool.new env.new) steps.new
-        (K.written sink.old) (K.written sink.new) result }
+    ensures run { Carries (OrCut (Does line (tree.count_up name.now (expression from.now) (expression to.now) (statements body.now))))
+        (variables_seen pool.old env.old) steps.old (variables_seen pool.new env.new) steps.new (K.written sink.old) (K.written sink.new) result }
     ensures live { AreVariablesLive pool.new env.new }
     ensures grows { Grows pool.old pool.new }
     ensures steps { steps.new ≤ step_limit }
@@ -231,8 +229,7 @@ fn turns_to<K: Sink>(
     requires evidence { HaveEvidence (variables_seen pool.old env.old) }
     requires steps { steps.old ≤ step_limit }
     ensures run { Carries (Turns line name.now (Run (statements body.now)) (numbers_from from (to + 1 - from)))
-        (variables_seen pool.old env.old) steps.old (variables_seen pool.new env.new) steps.new
-        (K.written sink.old) (K.written sink.new) result }
+        (variables_seen pool.old env.old) steps.old (variables_seen pool.new env.new) steps.new (K.written sink.old) (K.written sink.new) result }
     ensures live { AreVariablesLive pool.new env.new }
     ensures grows { Grows pool.old pool.new }
     ensures steps { steps.new ≤ step_limit }
@@ -288,9 +285,8 @@ fn each<K: Sink>(
     requires live { AreVariablesLive pool.old env.old }
     requires evidence { HaveEvidence (variables_seen pool.old env.old) }
     requires steps { steps.old ≤ step_limit }
-    ensures run { Carries (OrCut (With line (ListOf (expression list.now)) (Turns line name.now (Run (statements body.now)))))
-        (variables_seen pool.old env.old) steps.old (variables_seen pool.new env.new) steps.new
-        (K.written sink.old) (K.written sink.new) result }
+    ensures run { Carries (OrCut (Does line (tree.each name.now (expression list.now) (statements body.now))))
+        (variables_seen pool.old env.old) steps.old (variables_seen pool.new env.new) steps.new (K.written sink.old) (K.written sink.new) result }
     ensures live { AreVariablesLive pool.new env.new }
     ensures grows { Grows pool.old pool.new }
     ensures steps { steps.new ≤ step_limit }
@@ -323,8 +319,7 @@ fn turns_of<K: Sink>(
     requires items_live { AreItemsLive pool.old (vals items.now) }
     requires items_evidence { HaveItemsEvidence (seen_all pool.old (vals items.now)) }
     ensures run { Carries (Turns line name.now (Run (statements body.now)) (seen_all pool.old (vals items.now)))
-        (variables_seen pool.old env.old) steps.old (variables_seen pool.new env.new) steps.new
-        (K.written sink.old) (K.written sink.new) result }
+        (variables_seen pool.old env.old) steps.old (variables_seen pool.new env.new) steps.new (K.written sink.old) (K.written sink.new) result }
     ensures live { AreVariablesLive pool.new env.new }
     ensures grows { Grows pool.old pool.new }
     ensures steps { steps.new ≤ step_limit }
@@ -359,9 +354,8 @@ fn repeat<K: Sink>(
     requires live { AreVariablesLive pool.old env.old }
     requires evidence { HaveEvidence (variables_seen pool.old env.old) }
     requires steps { steps.old ≤ step_limit }
-    ensures run { Carries (Repeats line (Condition (expression test.now)) (Run (statements body.now)))
-        (variables_seen pool.old env.old) steps.old (variables_seen pool.new env.new) steps.new
-        (K.written sink.old) (K.written sink.new) result }
+    ensures run { Carries (Does line (tree.repeat (expression test.now) (statements body.now)))
+        (variables_seen pool.old env.old) steps.old (variables_seen pool.new env.new) steps.new (K.written sink.old) (K.written sink.new) result }
     ensures live { AreVariablesLive pool.new env.new }
     ensures grows { Grows pool.old pool.new }
     ensures steps { steps.new ≤ step_limit }
@@ -405,8 +399,7 @@ fn turn<K: Sink>(
     requires value_live { IsLiveIn pool.old value }
     requires value_evidence { HasEvidence (shown_in pool.old value) }
     ensures run { Carries (Step line (λ env. Run (statements body.now) (put env name.now (shown_in pool.old value))))
-        (variables_seen pool.old env.old) steps.old (variables_seen pool.new env.new) steps.new
-        (K.written sink.old) (K.written sink.new) result }
+        (variables_seen pool.old env.old) steps.old (variables_seen pool.new env.new) steps.new (K.written sink.old) (K.written sink.new) result }
     ensures live { AreVariablesLive pool.new env.new }
     ensures grows { Grows pool.old pool.new }
     ensures steps { steps.new ≤ step_limit }

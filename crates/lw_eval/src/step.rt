@@ -1,9 +1,9 @@
 ghost use Rattle.std.specs.Prelude.{◌≡◌, ℕ, List, Option, IsErrOf};
 ghost use Rattle.lw_pool.specs.Region.{Grows};
+ghost use Rattle.lw_ast.specs.Trees as tree;
 ghost use Rattle.lw_ast.specs.ScriptViews.{expression};
 ghost use Rattle.lw_value.specs.Assignments.{variables_seen, AreVariablesLive};
-ghost use Rattle.lw_eval.specs.Expressions.{Eval};
-ghost use Rattle.lw_eval.specs.Runs.{With, Assigns};
+ghost use Rattle.lw_eval.specs.Runs.{Does};
 ghost use Rattle.lw_eval.specs.Private.Carried.{Carries, OrCut, IsStepTaken};
 
 use crate::at_line::value_at;
@@ -42,7 +42,7 @@ pub fn assign(
     env: &mut Env,
 ) -> Result<(), RunFault>
     requires live { AreVariablesLive pool.old env.old }
-    ensures run { (k : ℕ) (w : Option (List ℕ)) → Carries (OrCut (With line (λ env. Eval env (expression expr.now)) (Assigns name.now)))
+    ensures run { (k : ℕ) (w : Option (List ℕ)) → Carries (OrCut (Does line (tree.assign name.now (expression expr.now))))
         (variables_seen pool.old env.old) k (variables_seen pool.new env.new) k w w result }
     ensures live { AreVariablesLive pool.new env.new }
     ensures grows { Grows pool.old pool.new }
