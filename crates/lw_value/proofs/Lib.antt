@@ -9,4 +9,7 @@ pub mod ValuesTaken
 pub mod LikeValues
 pub mod CertificatesWaiting
 pub mod CertificateWritten
-pub mod TextsWritten
+pub mod PartsLeft
+pub mod PartsWritten
+pub mod CertificatesPrintable
+pub mod JoinedTexts

@@ -1,5 +1,5 @@
 use Rattle.lw_value.specs.Private.TextsLeft.{parts_of}
-use Rattle.lw_value.proofs.TextsWritten.{goes-on, on-ok}
+use Rattle.lw_value.proofs.PartsWritten.{goes-on, on-ok}
 use Rattle.lw_value.proofs.text.go_on.Goals as goal
 
 pub returns-in_ok-extend_from_slice-in-Some : goal.returns-in_ok-extend_from_slice-in-Some

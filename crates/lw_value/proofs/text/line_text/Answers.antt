@@ -1,6 +1,6 @@
 use Rattle.std.proofs.Common.{arith}
 use Rattle.lw_value.specs.Views.{values_of}
-use Rattle.lw_value.proofs.TextsWritten.{all-printable}
+use Rattle.lw_value.proofs.CertificatesPrintable.{all-printable}
 use Rattle.lw_value.proofs.text.line_text.Goals as goal
 
 pub write_values-requires : goal.write_values-requires

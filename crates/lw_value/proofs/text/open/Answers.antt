@@ -1,5 +1,5 @@
 use Rattle.lw_value.specs.Private.TextsLeft.{parts_of}
-use Rattle.lw_value.proofs.TextsWritten.{opens, on-ok}
+use Rattle.lw_value.proofs.PartsWritten.{opens, on-ok}
 use Rattle.lw_value.proofs.text.open.Goals as goal
 
 pub returns-in-Some : goal.returns-in-Some

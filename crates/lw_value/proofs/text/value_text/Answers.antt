@@ -1,5 +1,5 @@
 use Rattle.lw_value.specs.Views.{value_of}
-use Rattle.lw_value.proofs.TextsWritten.{printable}
+use Rattle.lw_value.proofs.CertificatesPrintable.{printable}
 use Rattle.lw_value.proofs.text.value_text.Goals as goal
 
 pub write_value-requires : goal.write_value-requires

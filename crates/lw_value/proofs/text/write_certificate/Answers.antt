@@ -3,7 +3,7 @@ use Rattle.lw_value.specs.Values.{seen}
 use Rattle.lw_value.specs.Certified.{certified}
 use Rattle.lw_value.specs.ValueTexts.{IsTextOf}
 use Rattle.lw_value.proofs.CertificateWritten.{certificate-text}
-use Rattle.lw_value.proofs.TextsWritten.{appended}
+use Rattle.lw_value.proofs.PartsWritten.{appended}
 use Rattle.lw_value.proofs.text.write_certificate.Goals as goal
 
 pub returns-in-Ok : goal.returns-in-Ok

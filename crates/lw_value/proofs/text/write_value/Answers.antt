@@ -1,6 +1,6 @@
 use Rattle.std.proofs.Common.{◌≡◌, length, arith}
 use Rattle.lw_value.specs.Views.{value_of}
-use Rattle.lw_value.proofs.TextsWritten.{top-printable, leads-on, effort-falls, finished}
+use Rattle.lw_value.proofs.PartsLeft.{top-printable, leads-on, effort-falls, finished}
 use Rattle.lw_value.proofs.text.write_value.Goals as goal
 
 pub write_work-requires : goal.write_work-requires

@@ -2,7 +2,7 @@ use Rattle.std.proofs.Common.{subst}
 use Rattle.lw_value.specs.Views.{values_of}
 use Rattle.lw_value.specs.Private.TextsLeft.{IsPrintable, CanPrintAll}
 use Rattle.lw_value.proofs.ValuesTaken.{live-next, each-next}
-use Rattle.lw_value.proofs.TextsWritten.{one-behind, all-joined}
+use Rattle.lw_value.proofs.JoinedTexts.{one-behind, all-joined}
 use Rattle.lw_value.proofs.text.write_values.Goals as goal
 
 pub write_value-requires-in-loop-value : goal.write_value-requires-in-loop-value

@@ -3,7 +3,7 @@ use Rattle.lw_value.specs.Certified.{certified}
 use Rattle.lw_value.specs.Views.{value_of}
 use Rattle.lw_value.specs.Private.TextsLeft.{CanPrint, parts_of}
 use Rattle.lw_value.proofs.CertificateWritten.{certificate-live}
-use Rattle.lw_value.proofs.TextsWritten.{certificate-writes, on-ok}
+use Rattle.lw_value.proofs.PartsWritten.{certificate-writes, on-ok}
 use Rattle.lw_value.proofs.text.write_whole.Goals as goal
 
 pub write_certificate-requires-clause-live : goal.write_certificate-requires-clause-live
