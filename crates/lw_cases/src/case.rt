@@ -6,6 +6,7 @@ use crate::functions::{goedel_line, image_line};
 use crate::models::{class_line, facts_line, rows_line, sheet_of, spare_line, truth_line};
 use crate::numbers::number;
 use crate::pools::{boxes_line, doubled_line, released_line, renamed_line};
+use crate::scripts::{script_cuts_line, script_line, script_tree_line};
 use crate::setting::Setting;
 use crate::texts::{chars_line, read_line, token_line};
 use crate::top_call::run_line;
@@ -33,6 +34,7 @@ pub fn written(setting: &mut Setting, verb: &str, rest: &str) -> Result<Vec<u8>,
         "nnf" | "simplify" | "boxdot" => image_line(setting.alloc, verb, rest.as_bytes()),
         "goedel" => goedel_line(setting.alloc, rest.as_bytes()),
         "rows" | "facts" | "class" | "truth" | "spare" => of_model(setting, verb, rest),
+        "script" | "script-tree" | "script-cuts" => of_script(setting.alloc, &setting.text, verb),
         _ => of_text(setting.alloc, &setting.text, verb, rest),
     }
 }
@@ -44,6 +46,15 @@ fn of_number(alloc: Global, verb: &str, rest: &str) -> Result<Vec<u8>, Unanswere
         "released" => released_line(alloc, number)?,
         "doubled" => doubled_line(alloc, number)?,
         _ => renamed_line(alloc, number)?,
+    };
+    Ok(line.into_bytes())
+}
+
+fn of_script(alloc: Global, text: &[u8], verb: &str) -> Result<Vec<u8>, Unanswered> {
+    let line = match verb {
+        "script" => script_line(alloc, text)?,
+        "script-tree" => script_tree_line(alloc, text)?,
+        _ => script_cuts_line(alloc, text)?,
     };
     Ok(line.into_bytes())
 }

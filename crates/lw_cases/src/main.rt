@@ -15,6 +15,7 @@ mod items;
 mod models;
 mod numbers;
 mod pools;
+mod scripts;
 mod setting;
 mod texts;
 mod top_call;
