@@ -3,6 +3,7 @@ use crate::chains::chain_line;
 use crate::closures::closure_line;
 use crate::formulas::{pool_line, print_line, replace_line, tree_line};
 use crate::functions::{goedel_line, image_line};
+use crate::interpolants::interpolant_line;
 use crate::models::{class_line, facts_line, rows_line, sheet_of, spare_line, truth_line};
 use crate::numbers::number;
 use crate::pools::{boxes_line, doubled_line, released_line, renamed_line};
@@ -93,6 +94,7 @@ fn of_text(alloc: Global, text: &[u8], verb: &str, rest: &str) -> Result<Vec<u8>
         "proof" => Ok(proof_line(alloc, text)?.into_bytes()),
         "chars" => Ok(chars_line(alloc, text)?),
         "verdicts" => Ok(verdicts_line(alloc, text)?.into_bytes()),
+        "interpolant" => interpolant_line(alloc, text),
         "cuts" => Ok(cut_line(alloc, text)?.into_bytes()),
         _ => Err(Unanswered),
     }

@@ -20,8 +20,10 @@ pub fn bytes_of(alloc: Global, text: &[u8]) -> Result<Vec<u8>, Unanswered> {
 // Adds what stands behind a `{`: a number, a space, the bytes that are repeated, a `}`, and more text.
 fn add_repeated(out: &mut Vec<u8>, part: &[u8]) -> Result<(), Unanswered> {
     let (head, rest) = sides(part, b'}')?;
-    let (count, unit) = sides(head, b' ')?;
-    repeat(out, number(count)?, unit)?;
+    let (count, written) = sides(head, b' ')?;
+    let mut unit = Vec::new(*out.allocator());
+    add_escaped(&mut unit, written)?;
+    repeat(out, number(count)?, &unit)?;
     add_escaped(out, rest)
 }
 

@@ -11,6 +11,7 @@ mod entry;
 mod escapes;
 mod formulas;
 mod functions;
+mod interpolants;
 mod items;
 mod models;
 mod numbers;
