@@ -14,3 +14,4 @@ pub mod TurnsLeft
 pub mod VariablesBound
 pub mod VariablesGiven
 pub mod WeightsSeen
+pub mod ValuesCompared

@@ -10,9 +10,10 @@ ghost use Rattle.lw_eval.specs.Private.Remaining.{Series};
 ghost use Rattle.lw_eval.specs.Private.Given.{Gives, IsLiveIn, shown_in};
 
 use crate::call::call;
+use crate::comparing::compared;
 use crate::fault::EvalFault;
 use crate::leaf::{text, variable};
-use crate::operator::{calculated, compared, joined, list_of, prefixed, truth_in};
+use crate::operator::{calculated, joined, list_of, prefixed, truth_in};
 use lw_ast::{Expr, Exprs, Prefix, Terms};
 use lw_pool::{Node, Pool};
 use lw_value::{Env, Items, Value};

@@ -3,6 +3,7 @@
 
 mod at_line;
 mod call;
+mod comparing;
 mod deciding;
 mod eval;
 mod fault;

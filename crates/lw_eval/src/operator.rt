@@ -5,16 +5,15 @@ ghost use Rattle.lw_value.specs.Values.{vals, seen_all, AreItemsLive};
 ghost use Rattle.lw_eval.specs.Evaluations.{Is};
 ghost use Rattle.lw_eval.specs.Operands as operands;
 ghost use Rattle.lw_eval.specs.Operators as operators;
-ghost use Rattle.lw_eval.specs.Operators.{Prefixes, Joins, Calculates, Compares};
+ghost use Rattle.lw_eval.specs.Operators.{Prefixes, Joins, Calculates};
 ghost use Rattle.lw_eval.specs.Private.Given.{Gives, IsLiveIn, shown_in};
 
 use crate::fault::EvalFault;
 use crate::trouble::Trouble;
-use lw_ast::{Op, Prefix, Relation};
+use lw_ast::{Op, Prefix};
 use lw_formula::Joint;
 use lw_pool::{Node, Pool};
 use lw_value::{Items, Value, weight};
-use std::alloc::Global;
 
 /// The greatest weight of a list.
 const WEIGHT_LIMIT: usize = 65_536;
@@ -80,21 +79,6 @@ pub fn truth_in(value: &Value) -> Result<bool, EvalFault>
         Value::Truth(truth) => Ok(*truth),
         _ => Err(EvalFault::Troubled(Trouble::Kind)),
     }
-}
-
-/// `==`, `!=`, `<` and `<=`.
-pub fn compared(
-    alloc: Global,
-    relation: Relation,
-    operands: &(Value, Value),
-    pool: &Pool,
-) -> Result<Value, EvalFault>
-    requires left { IsLiveIn pool.now operands.now.0 }
-    requires right { IsLiveIn pool.now operands.now.1 }
-    ensures value { Gives (shown_in pool.now) (Compares relation (shown_in pool.now operands.now.0) (shown_in pool.now operands.now.1)) result }
-    ensures live { IfOk result (IsLiveIn pool.now) }
-{
-    Err(EvalFault::Memory)
 }
 
 /// A list of these items, if it isn't too heavy.

@@ -8,6 +8,7 @@ use Rattle.lw_closure.specs.declared.fault.TheConstants.{SUBFORMULA_LIMIT}
 use Rattle.lw_ast.specs.declared.function.Function.{Function}
 use Rattle.lw_value.specs.declared.value.Value.{Value}
 use Rattle.lw_value.specs.Values.{Evidence, shown_by, EachShown, certificate, Val, Vals, seen, seen_all, AreLive, AreItemsLive}
+use Rattle.lw_value.specs.Evidence.{HasNoCertificate}
 use Rattle.lw_value.specs.Views.{value_of, values_of}
 use Rattle.lw_eval.specs.declared.trouble.Trouble.TheVariants.{TooLarge, Kind}
 use Rattle.lw_eval.specs.declared.fault.EvalFault.{EvalFault}
@@ -63,3 +64,8 @@ abbrev pub IsVariable : Formula → Result (List ℕ) EvalFault → Type 0
 IsVariable a (Ok p) = a ≡ letter p
 IsVariable a (Err (Troubled t)) = (t ≡ Kind) × IsCompound a
 IsVariable a (Err Memory) = ⊤
+
+-- the values can't be compared, since a certificate stands in one of them; or memory ran out
+abbrev pub IsIncomparable : Val Formula → Val Formula → EvalFault → Type 0
+IsIncomparable v w (Troubled t) = (t ≡ Kind) × ¬ (HasNoCertificate v × HasNoCertificate w)
+IsIncomparable v w Memory = ⊤
