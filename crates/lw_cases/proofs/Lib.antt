@@ -1,2 +1,3 @@
 pub mod Fragments
 pub mod Sheets
+pub mod WrittenValues
