@@ -1,3 +1,4 @@
 pub mod Accepted
 pub mod Fragments
 pub mod Sheets
+pub mod WrittenValues

@@ -12,6 +12,8 @@ use crate::setting::Setting;
 use crate::texts::{chars_line, read_line, token_line};
 use crate::top_call::run_line;
 use crate::unanswered::Unanswered;
+use crate::values::{equal_line, list_line, print_values_line, value_line};
+use crate::variables::variables_line;
 use crate::verdicts::verdicts_line;
 use lw_formula::Logic;
 use std::alloc::{AllocError, Global};
@@ -36,6 +38,7 @@ pub fn written(setting: &mut Setting, verb: &str, rest: &str) -> Result<Vec<u8>,
         "goedel" => goedel_line(setting.alloc, rest.as_bytes()),
         "rows" | "facts" | "class" | "truth" | "spare" => of_model(setting, verb, rest),
         "script" | "script-tree" | "script-cuts" => of_script(setting.alloc, &setting.text, verb),
+        "value" | "list" | "values" | "equal" | "variables" => of_values(setting.alloc, verb, rest),
         _ => of_text(setting.alloc, &setting.text, verb, rest),
     }
 }
@@ -58,6 +61,16 @@ fn of_script(alloc: Global, text: &[u8], verb: &str) -> Result<Vec<u8>, Unanswer
         _ => script_cuts_line(alloc, text)?,
     };
     Ok(line.into_bytes())
+}
+
+fn of_values(alloc: Global, verb: &str, rest: &str) -> Result<Vec<u8>, Unanswered> {
+    match verb {
+        "value" => value_line(alloc, rest),
+        "list" => list_line(alloc, rest),
+        "values" => print_values_line(alloc, rest),
+        "equal" => Ok(said(alloc, equal_line(alloc, rest)?)?),
+        _ => Ok(variables_line(alloc, rest)?.into_bytes()),
+    }
 }
 
 fn of_model(setting: &Setting, verb: &str, rest: &str) -> Result<Vec<u8>, Unanswered> {
@@ -100,7 +113,8 @@ fn of_text(alloc: Global, text: &[u8], verb: &str, rest: &str) -> Result<Vec<u8>
     }
 }
 
-fn logic_of(word: &str) -> Result<Logic, Unanswered> {
+/// The logic of the word.
+pub fn logic_of(word: &str) -> Result<Logic, Unanswered> {
     Logic::from_word(word.as_bytes()).ok_or(Unanswered)
 }
 

@@ -1,7 +1,7 @@
 //! Cases on the text's formula, as a tree and in a pool.
 
 ghost use Rattle.std.specs.Prelude.{IfOk};
-ghost use Rattle.lw_pool.specs.Region.{IsLive};
+ghost use Rattle.lw_pool.specs.Region.{IsLive, Grows};
 
 use crate::items::add_item;
 use crate::numbers::sides;
@@ -13,7 +13,8 @@ use std::alloc::{AllocError, Global};
 
 /// Puts the text's formula into the pool.
 pub fn entered(alloc: Global, pool: &mut Pool, text: &[u8]) -> Result<FormId, Unanswered>
-    ensures { IfOk result (IsLive pool.new) }
+    ensures live { IfOk result (IsLive pool.new) }
+    ensures grows { Grows pool.old pool.new }
 {
     let form = read_formula(alloc, text)?;
     Ok(pool.from_form(&form)?)

@@ -21,6 +21,8 @@ mod setting;
 mod texts;
 mod top_call;
 mod unanswered;
+mod values;
+mod variables;
 mod verdicts;
 
 use crate::case::{is_setting, written};

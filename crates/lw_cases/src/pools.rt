@@ -13,7 +13,8 @@ use lw_read::PrintFault;
 use std::alloc::{AllocError, Global};
 
 fn letter(alloc: Global, pool: &mut Pool) -> Result<FormId, Unanswered>
-    ensures { IfOk result (IsLive pool.new) }
+    ensures live { IfOk result (IsLive pool.new) }
+    ensures grows { Grows pool.old pool.new }
 {
     Ok(pool.make(Node::Var(Name::from_bytes(alloc, b"p")?))?)
 }
@@ -71,9 +72,10 @@ pub fn released_line(alloc: Global, boxes: usize) -> Result<String, Unanswered> 
     Ok(format!(in alloc; "{count} left")?)
 }
 
-// `p`, joined with itself by `&` so many times over
-fn doubled(alloc: Global, pool: &mut Pool, times: usize) -> Result<FormId, Unanswered>
-    ensures { IfOk result (IsLive pool.new) }
+/// `p`, joined with itself by `&` so many times over
+pub fn doubled(alloc: Global, pool: &mut Pool, times: usize) -> Result<FormId, Unanswered>
+    ensures live { IfOk result (IsLive pool.new) }
+    ensures grows { Grows pool.old pool.new }
 {
     let mut form = letter(alloc, pool)?;
     'times: for _ in 0..times {

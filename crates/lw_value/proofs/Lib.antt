@@ -13,3 +13,4 @@ pub mod PartsLeft
 pub mod PartsWritten
 pub mod CertificatesPrintable
 pub mod JoinedTexts
+pub mod OneText

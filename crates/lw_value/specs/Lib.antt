@@ -4,4 +4,5 @@ pub mod Views
 pub mod Evidence
 pub mod ValueTexts
 pub mod Assignments
+pub mod Laws
 pub mod Private
