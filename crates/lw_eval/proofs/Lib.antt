@@ -8,6 +8,7 @@ pub mod ExpressionsSeen
 pub mod ItemsSeen
 pub mod OutputAdded
 pub mod RunsCarried
+pub mod RunsFollowed
 pub mod StatementsSeen
 pub mod TroublesAtLines
 pub mod TurnsLeft

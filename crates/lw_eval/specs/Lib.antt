@@ -6,4 +6,6 @@ pub mod Expressions
 pub mod Runs
 pub mod Outputs
 pub mod Ran
+pub mod Plain
+pub mod Laws
 pub mod Private
