@@ -6,6 +6,9 @@ pub mod EvaluationsRepeated
 pub mod EvidenceKept
 pub mod ExpressionsSeen
 pub mod ItemsSeen
+pub mod NamesInOrder
+pub mod OneOutput
+pub mod OneValue
 pub mod OutputAdded
 pub mod RunsCarried
 pub mod RunsFollowed

@@ -1,10 +1,9 @@
 -- Runs that follow one another, that are cut, and that have no step left.
-use Rattle.std.proofs.Common.{◌≡◌, ◌≢◌, ℕ, ◌+◌, ◌<◌, ◌≤◌, List, [], ◌++◌, refl, sym, ap, ◌∙◌, append_assoc, arith}
+use Rattle.std.proofs.Common.{◌≡◌, ℕ, List, ◌++◌, refl, sym, ap, ◌∙◌, append_assoc, arith}
 use Rattle.lw_ast.specs.Trees as tree
 use Rattle.lw_ast.specs.Trees.{Statements, followed}
-use Rattle.lw_eval.specs.declared.trouble.Trouble.TheVariants.{StepLimit}
 use Rattle.lw_eval.specs.Expressions.{Variables}
-use Rattle.lw_eval.specs.Runs.{step_limit, Act, End, Done, Stopped, Cut, Nothing, Then, Step, DoesStep, Run}
+use Rattle.lw_eval.specs.Runs.{Act, End, Done, Nothing, Then, Step, DoesStep, Run}
 use Rattle.lw_eval.specs.Laws.{RunGoesOn, RunFallsApart, RunMayBeCut, StepsEnd}
 use Rattle.lw_eval.proofs.RunsCarried.{cut_not_done}
 

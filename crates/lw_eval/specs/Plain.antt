@@ -1,5 +1,5 @@
 -- Scripts without the two functions that may choose what they give.
-use Rattle.std.specs.Prelude.{ℕ, ⊤}
+use Rattle.std.specs.Prelude.{⊤}
 use Rattle.lw_ast.specs.declared.function.Function.{Function}
 use Rattle.lw_ast.specs.declared.function.Function.TheVariants.{Certificate, Interpolate}
 use Rattle.lw_ast.specs.Trees as tree

@@ -1,6 +1,6 @@
-ghost use Rattle.lw_eval.specs.Laws.{RunGoesOn, RunFallsApart, RunMayBeCut, StepsEnd};
+ghost use Rattle.lw_eval.specs.Laws.{RunGoesOn, RunFallsApart, RunMayBeCut, OneOutput, StepsEnd};
 
-/// Law: where a run is carried out, another goes on from there, with its variables and its steps.
+/// Law: where a run is carried out, another goes on from there, with its variables and its steps, and writes behind it.
 pub fn run_goes_on()
     ensures { RunGoesOn }
 {}
@@ -15,7 +15,13 @@ pub fn run_may_be_cut()
     ensures { RunMayBeCut }
 {}
 
-/// Law: where all steps are taken, the next statement ends the run at its line.
+/// Law: a script that calls neither `certificate` nor `interpolate` has at most one output and one end.
+pub fn one_output()
+    ensures { OneOutput }
+{}
+
+/// Law: where all steps are taken, the next statement ends the run at its line, if the run isn't cut before, and does
+/// nothing else.
 pub fn steps_end()
     ensures { StepsEnd }
 {}

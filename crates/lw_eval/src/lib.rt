@@ -22,7 +22,7 @@ mod run_fault;
 mod step;
 mod trouble;
 
-pub use laws::{run_falls_apart, run_goes_on, run_may_be_cut, steps_end};
+pub use laws::{one_output, run_falls_apart, run_goes_on, run_may_be_cut, steps_end};
 pub use run::run_script;
 pub use run_fault::RunFault;
 pub use trouble::Trouble;
