@@ -23,9 +23,8 @@ use std::alloc::Global;
 /// lines, times one more than the nodes of the tree of `left -> right`.
 ///
 /// `NoInterpolants` comes exactly for S5 and Grz, before the proof is looked at, and the pool is then as before; `Memory`
-/// comes for want of memory alone. After each answer the pool has what it had, and perhaps formulas above. Proofs of any
-/// depth are read without recursion, in time and memory by the lines of the proof and the size of the sets that it
-/// closes.
+/// comes for want of memory alone. After each answer the pool has what it had, and perhaps formulas above. The proof is
+/// read with a stack in memory, and nothing recurses.
 pub fn interpolant(
     alloc: Global,
     pool: &mut Pool,
