@@ -34,11 +34,11 @@ pub fn run_report<K: Sink>(
     ensures later { K.faults sink.old ≤ K.faults sink.new }
 {
     if bytes.len() > FILE_LIMIT {
-        return limit_report(alloc).map_err(|_| ReportFault::Memory);
+        return Ok(limit_report(alloc)?);
     }
     match read_script(alloc, bytes) {
         Ok(script) => script_report(alloc, &script, sink),
-        Err(fault) => refusal_report(alloc, bytes, fault).map_err(|_| ReportFault::Memory),
+        Err(fault) => Ok(refusal_report(alloc, bytes, fault)?),
     }
 }
 
@@ -88,9 +88,7 @@ fn script_report<K: Sink>(
             line: Vec::new(alloc),
             status: 0,
         }),
-        Err(RunFault::Stopped { line, trouble }) => {
-            trouble_report(alloc, line, &trouble).map_err(|_| ReportFault::Memory)
-        }
+        Err(RunFault::Stopped { line, trouble }) => Ok(trouble_report(alloc, line, &trouble)?),
         Err(RunFault::SinkFailed) => Err(ReportFault::SinkFailed),
         Err(RunFault::Memory) => Err(ReportFault::Memory),
     }
