@@ -22,7 +22,7 @@ use Rattle.lw_cli.specs.declared.report.ReportFault.{ReportFault}
 use Rattle.lw_cli.specs.FileLimit.{file_limit}
 use Rattle.lw_cli.specs.FaultLines.{file_limit_line, trouble_line}
 use Rattle.lw_cli.specs.RunOutcomes.{RunOutcome, RunBegins, too_long, done, stopped}
-use Rattle.lw_cli.specs.Private.ReportSteps.{Reports, Wrote, WrotePart, WroteBegun, IsShort, ScriptOutcome, carried, troubled, IsFaultReport}
+use Rattle.lw_cli.specs.Private.ReportSteps.{Reports, WrotePart, IsShort, ScriptOutcome, carried, troubled, IsFaultReport}
 
 -- a piece, and then a first part of another
 adds_part_behind : (a b c : Option (List ℕ)) (p q : List ℕ) → Adds a b p → AddsPart b c q → AddsPart a c (p ++ q)
@@ -70,7 +70,7 @@ reports_carried s after before now x report ran none zero = record {
   out = ran.out;
   written = ran.adds;
   allowed = subst (λ status. ScriptOutcome s (ran.out ++ report.line.items) status) (sym zero)
-    (subst (λ l. ScriptOutcome s l 0) (sym (ap (λ l. ran.out ++ l) none ∙ append-nil ran.out)) (carried ran.out (allows s after before now (Ok x) Done ran ran.ends done_is_whole)));
+      (subst (λ l. ScriptOutcome s l 0) (sym (ap (λ l. ran.out ++ l) none ∙ append-nil ran.out)) (carried ran.out (allows s after before now (Ok x) Done ran ran.ends done_is_whole)));
 }
 
 -- it ended in a trouble, which is to be said
@@ -80,8 +80,8 @@ reports_trouble s after before now line t report ran is = record {
   out = ran.out;
   written = ran.adds;
   allowed = subst (λ status. ScriptOutcome s (ran.out ++ report.line.items) status) (sym is.ending)
-    (subst (λ l. ScriptOutcome s (ran.out ++ l) 1) (sym is.says)
-    (troubled ran.out line t (allows s after before now (Err (fault.Stopped line t)) (Stopped line t) ran ran.ends (stop_is_whole line t))));
+      (subst (λ l. ScriptOutcome s (ran.out ++ l) 1) (sym is.says)
+      (troubled ran.out line t (allows s after before now (Err (fault.Stopped line t)) (Stopped line t) ran ran.ends (stop_is_whole line t))));
 }
 
 -- it ended in a trouble, for whose line there is no memory

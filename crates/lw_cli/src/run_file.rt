@@ -19,11 +19,7 @@ use lw_value::Env;
 use std::alloc::{AllocError, Global};
 
 /// Runs the script whose text these bytes are. What it prints goes to the sink.
-pub fn run_report<K: Sink>(
-    alloc: Global,
-    bytes: &[u8],
-    sink: &mut K,
-) -> Result<Report, ReportFault>
+pub fn run_report<K: Sink>(alloc: Global, bytes: &[u8], sink: &mut K) -> Result<Report, ReportFault>
     ensures report { IfOk result (Reports (RunOutcome bytes.now) (K.written sink.old) (K.written sink.new)) }
     ensures status { IfOk result (λ report. report.status ≤ 1) }
     ensures failed { IsErrOf result ReportFault.SinkFailed →
