@@ -59,16 +59,16 @@ fn certified_in(
     Ok(certificate_text(alloc, pool, &certificate)?)
 }
 
-// What `prove` and `check` write in the logic, with their statuses.
+// What a script and `check` write in the logic, with their statuses.
 fn logic_line(setting: &Setting, logic: Logic) -> Result<Vec<u8>, Unanswered> {
-    let certificate = certified(setting.alloc, logic, &setting.text)?;
-    let lines = both_lines(setting, logic, certificate)?;
+    let lines = both_lines(setting, logic)?;
     let mut line = format!(in setting.alloc; "{}: ", logic.word())?.into_bytes();
     line.extend_from_slice(&lines)?;
     Ok(line)
 }
 
-/// In each logic what `prove` writes of the text, and what `check` writes of the certificate of what is decided.
+/// In each logic what a script prints of whether the text is valid, and what `check` writes of the certificate that a
+/// script prints of it.
 pub fn logics_line(setting: &Setting) -> Result<Vec<u8>, Unanswered> {
     let mut line = Vec::new(setting.alloc);
     for logic in &LOGICS {

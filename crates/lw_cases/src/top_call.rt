@@ -1,4 +1,4 @@
-use crate::setting::{FILE, Setting};
+use crate::setting::Setting;
 use lw_cli::workbench;
 use lw_formula::Logic;
 use std::alloc::{AllocError, Global};
@@ -32,15 +32,31 @@ pub fn run_line(setting: &Setting, words: &str) -> Result<Vec<u8>, AllocError> {
     Ok(line)
 }
 
-/// What `prove` writes of the text in the logic, and what `check` writes of the certificate.
-pub fn both_lines(
-    setting: &Setting,
-    logic: Logic,
-    certificate: Vec<u8>,
-) -> Result<Vec<u8>, AllocError> {
-    let words = format!(in setting.alloc; "prove {} {FILE}", logic.word())?;
-    let mut line = run_line(setting, words.as_str())?;
-    let mut shown = Setting::new(setting.alloc);
+// A script that prints what the function gives for the logic and the setting's text, a formula.
+fn script_of(setting: &Setting, function: &str, logic: Logic) -> Result<Vec<u8>, AllocError> {
+    let alloc = setting.alloc;
+    let mut script = format!(in alloc; "print {function}({}, ", logic.word())?.into_bytes();
+    script.extend_from_slice(&setting.text)?;
+    script.extend_from_slice(b");")?;
+    Ok(script)
+}
+
+// The status of the words over a text, and what was written.
+fn run_text(alloc: Global, text: Vec<u8>, words: &str) -> Result<(u8, Vec<u8>), AllocError> {
+    let mut shown = Setting::new(alloc);
+    shown.text = text;
+    run(&shown, words)
+}
+
+/// What a script prints of whether the text is valid in the logic, and what `check` writes of the certificate that a
+/// second script prints.
+pub fn both_lines(setting: &Setting, logic: Logic) -> Result<Vec<u8>, AllocError> {
+    let alloc = setting.alloc;
+    let mut asked = Setting::new(alloc);
+    asked.text = script_of(setting, "provable", logic)?;
+    let mut line = run_line(&asked, "run file")?;
+    let (_, certificate) = run_text(alloc, script_of(setting, "certificate", logic)?, "run file")?;
+    let mut shown = Setting::new(alloc);
     shown.text = certificate;
     line.extend_from_slice(&run_line(&shown, "check file")?)?;
     Ok(line)

@@ -1,36 +1,102 @@
--- What is to be said of the first bytes that a fetch gives is what is to be said of the whole file.
-use Rattle.std.proofs.Common.{◌≡◌, ℕ, ◌+◌, ◌<◌, ◌≤◌, List, length, take, Option, Some, None, ◌∙◌, subst, arith}
+-- What a command may write over the first bytes that a fetch gives, it may write over the whole file.
+use Rattle.std.proofs.Common.{◌≡◌, ℕ, ◌+◌, ◌<◌, ◌≤◌, List, ◌++◌, length, take, Option, Some, None, ◌⊎◌, inl, inr, sym, ◌∙◌, subst, ap, arith}
 use Rattle.std.proofs.lemmas.List.{take_all, length-take}
 use Rattle.lw_io.specs.Files.{Files, IsHeldPart}
-use Rattle.lw_formula.specs.declared.logic.Logic.{Logic}
-use Rattle.lw_cli.specs.declared.answer.Answer.{Answer}
-use Rattle.lw_cli.specs.declared.answer.Answer.TheVariants.{Syntax, TooLarge, Yes, No}
-use Rattle.lw_cli.specs.Outcome.{file_limit, IsAnswer, too_long, refused, too_large, valid, not_valid, IsAnswerOf}
+use Rattle.lw_cli.specs.declared.asked.Command.{Command}
+use Rattle.lw_cli.specs.declared.asked.Command.TheVariants.{Run, Check}
+use Rattle.lw_cli.specs.declared.finding.Finding.{Finding}
+use Rattle.lw_cli.specs.declared.finding.Finding.TheVariants.{ModelText, ProofText}
+use Rattle.lw_cli.specs.FileLimit.{file_limit}
+use Rattle.lw_cli.specs.FaultLines.{syntax_line, trouble_line}
+use Rattle.lw_cli.specs.Checked as check
+use Rattle.lw_cli.specs.Checked.{IsFinding}
+use Rattle.lw_cli.specs.RunOutcomes as run
+use Rattle.lw_cli.specs.RunOutcomes.{RunOutcome, RunBegins}
+use Rattle.lw_cli.specs.Commands.{Outcome, IsBegun}
+use Rattle.lw_cli.specs.Asked.{file_of}
+use Rattle.lw_cli.specs.Headline.{Answers, AnswersPart, AnswersBegun, IsCutShort}
+use Rattle.lw_cli.specs.Private.ReportSteps.{Wrote, WrotePart, WroteBegun, IsShort}
 
 -- one byte more than n of a list: where that is at most n long, it is all of the list
-whole : (n : ℕ) (xs : List ℕ) → length (take (n + 1) xs) ≤ n → take (n + 1) xs ≡ xs
-whole n xs short = let bound : length xs ≤ n + 1 = omega (arith, length-take (n + 1) xs) in take_all (n + 1) xs bound
-
-longer : (n : ℕ) (xs : List ℕ) → n < length (take (n + 1) xs) → n < length xs
-longer n xs long = omega (arith, length-take (n + 1) xs)
-
 all_of : (n : ℕ) (part bytes : List ℕ) → part ≡ take (n + 1) bytes → length part ≤ n → part ≡ bytes
-all_of n part bytes is short = is ∙ whole n bytes (subst (λ xs. length xs ≤ n) is short)
+all_of n part bytes is short =
+    let bound : length bytes ≤ n + 1 = omega (arith, length-take (n + 1) bytes, ap length is) in
+    is ∙ take_all (n + 1) bytes bound
 
 more_of : (n : ℕ) (part bytes : List ℕ) → part ≡ take (n + 1) bytes → n < length part → n < length bytes
-more_of n part bytes is long = longer n bytes (subst (λ xs. n < length xs) is long)
+more_of n part bytes is long = omega (arith, length-take (n + 1) bytes, ap length is)
 
-answer_to_whole : (logic : Logic) (part bytes : List ℕ) (answer : Answer) → part ≡ take (file_limit + 1) bytes → IsAnswer logic part answer → IsAnswer logic bytes answer
-answer_to_whole logic part bytes _ is (too_long long) = too_long (more_of file_limit part bytes is long)
-answer_to_whole logic part bytes _ is (refused place why short fault) =
-    subst (λ xs. IsAnswer logic xs (Syntax place why)) (all_of file_limit part bytes is short) (refused place why short fault)
-answer_to_whole logic part bytes _ is (too_large a n short reads count many) =
-    subst (λ xs. IsAnswer logic xs (TooLarge n)) (all_of file_limit part bytes is short) (too_large a n short reads count many)
-answer_to_whole logic part bytes _ is (valid a short reads few holds) =
-    subst (λ xs. IsAnswer logic xs Yes) (all_of file_limit part bytes is short) (valid a short reads few holds)
-answer_to_whole logic part bytes _ is (not_valid a short reads few fails) =
-    subst (λ xs. IsAnswer logic xs No) (all_of file_limit part bytes is short) (not_valid a short reads few fails)
+finding_of_whole : (part bytes : List ℕ) (finding : Finding) → part ≡ take (file_limit + 1) bytes → IsFinding part finding → IsFinding bytes finding
+finding_of_whole part bytes _ is (check.too_long long) = check.too_long (more_of file_limit part bytes is long)
+finding_of_whole part bytes _ is (check.no_model line short told) =
+    subst (λ xs. IsFinding xs (ModelText line)) (all_of file_limit part bytes is short) (check.no_model line short told)
+finding_of_whole part bytes _ is (check.no_proof line short told) =
+    subst (λ xs. IsFinding xs (ProofText line)) (all_of file_limit part bytes is short) (check.no_proof line short told)
+finding_of_whole part bytes _ is (check.judged c finding short reads says) =
+    subst (λ xs. IsFinding xs finding) (all_of file_limit part bytes is short) (check.judged c finding short reads says)
 
-pub answer_of_fetched : (logic : Logic) (holds : Option Files) (name part : List ℕ) (answer : Answer) → IsHeldPart holds name (file_limit + 1) part → IsAnswer logic part answer → IsAnswerOf logic holds name answer
-answer_of_fetched logic None name part answer held is = (part, tt, is)
-answer_of_fetched logic (Some files) name part answer (bytes, at, taken) is = (bytes, at, answer_to_whole logic part bytes answer taken is)
+run_of_whole : (part bytes out : List ℕ) (status : ℕ) → part ≡ take (file_limit + 1) bytes → RunOutcome part out status → RunOutcome bytes out status
+run_of_whole part bytes _ _ is (run.too_long long) = run.too_long (more_of file_limit part bytes is long)
+run_of_whole part bytes _ _ is (run.refused line column why short told) =
+    subst (λ xs. RunOutcome xs (syntax_line line column why) 1) (all_of file_limit part bytes is short) (run.refused line column why short told)
+run_of_whole part bytes _ _ is (run.done s out short reads allows) =
+    subst (λ xs. RunOutcome xs out 0) (all_of file_limit part bytes is short) (run.done s out short reads allows)
+run_of_whole part bytes _ _ is (run.stopped s out line t short reads allows) =
+    subst (λ xs. RunOutcome xs (out ++ trouble_line line t) 1) (all_of file_limit part bytes is short) (run.stopped s out line t short reads allows)
+
+outcome_of_whole : (command : Command) (part bytes out : List ℕ) (status : ℕ) → part ≡ take (file_limit + 1) bytes → Outcome command part out status → Outcome command bytes out status
+outcome_of_whole (Run file) part bytes out status is outcome = run_of_whole part bytes out status is outcome
+outcome_of_whole (Check file) part bytes out status is outcome = record {
+  finding = outcome.finding;
+  is_finding = finding_of_whole part bytes outcome.finding is outcome.is_finding;
+  line = outcome.line;
+  ending = outcome.ending;
+}
+
+begun_of_whole : (command : Command) (part bytes out : List ℕ) → part ≡ take (file_limit + 1) bytes → IsBegun command part out → IsBegun command bytes out
+begun_of_whole (Run file) part bytes out is begun = subst (λ xs. RunBegins xs out) (all_of file_limit part bytes is begun.short) begun
+begun_of_whole (Check file) part bytes out is begun = absurd begun
+
+-- what was written over the bytes that the fetch gave is what may be written over the file
+pub answers_whole : (command : Command) (holds : Option Files) (part : List ℕ) (before now : Option (List ℕ)) (status : ℕ) → IsHeldPart holds (file_of command) (file_limit + 1) part
+    → Wrote (Outcome command part) before now status → Answers command holds before now status
+answers_whole command None part before now status held wrote =
+    record { out = wrote.out; output = record { bytes = part; held = tt; outcome = wrote.allowed }; written = wrote.written }
+answers_whole command (Some files) part before now status (bytes, at, taken) wrote = record {
+  out = wrote.out;
+  output = record { bytes = bytes; held = at; outcome = outcome_of_whole command part bytes wrote.out status taken wrote.allowed };
+  written = wrote.written;
+}
+
+part_whole : (command : Command) (holds : Option Files) (part : List ℕ) (before now : Option (List ℕ)) → IsHeldPart holds (file_of command) (file_limit + 1) part
+    → WrotePart (Outcome command part) before now → AnswersPart command holds before now
+part_whole command None part before now held wrote =
+    record { out = wrote.out; status = wrote.status; output = record { bytes = part; held = tt; outcome = wrote.allowed }; written = wrote.written }
+part_whole command (Some files) part before now (bytes, at, taken) wrote = record {
+  out = wrote.out;
+  status = wrote.status;
+  output = record { bytes = bytes; held = at; outcome = outcome_of_whole command part bytes wrote.out wrote.status taken wrote.allowed };
+  written = wrote.written;
+}
+
+begun_whole : (command : Command) (holds : Option Files) (part : List ℕ) (before now : Option (List ℕ)) → IsHeldPart holds (file_of command) (file_limit + 1) part
+    → WroteBegun (IsBegun command part) before now → AnswersBegun command holds before now
+begun_whole command None part before now held wrote = record { bytes = part; held = tt; out = wrote.out; begun = wrote.is_begun; written = wrote.written }
+begun_whole command (Some files) part before now (bytes, at, taken) wrote =
+    record { bytes = bytes; held = at; out = wrote.out; begun = begun_of_whole command part bytes wrote.out taken wrote.is_begun; written = wrote.written }
+
+pub short_whole : (command : Command) (holds : Option Files) (part : List ℕ) (before now : Option (List ℕ)) → IsHeldPart holds (file_of command) (file_limit + 1) part
+    → IsShort (Outcome command part) (IsBegun command part) before now → IsCutShort command holds before now
+short_whole command holds part before now held (inl wrote) = inl (part_whole command holds part before now held wrote)
+short_whole command holds part before now held (inr wrote) = inr (begun_whole command holds part before now held wrote)
+
+pub nothing_or_short : (command : Command) (holds : Option Files) (part : List ℕ) (before now : Option (List ℕ)) → IsHeldPart holds (file_of command) (file_limit + 1) part
+    → (now ≡ before) ⊎ IsShort (Outcome command part) (IsBegun command part) before now → (now ≡ before) ⊎ IsCutShort command holds before now
+nothing_or_short command holds part before now held (inl same) = inl same
+nothing_or_short command holds part before now held (inr short) = inr (short_whole command holds part before now held short)
+
+-- the same under other names
+pub held_as : (holds : Option Files) (given file name read part : List ℕ) → given ≡ file → file ≡ name → part ≡ read → IsHeldPart holds given (file_limit + 1) read
+    → IsHeldPart holds name (file_limit + 1) part
+held_as holds given file name read part text is same held =
+    subst (λ x. IsHeldPart holds x (file_limit + 1) part) (text ∙ is) (subst (λ xs. IsHeldPart holds given (file_limit + 1) xs) (sym same) held)

@@ -1,3 +1,3 @@
-pub mod FileAnswers
 pub mod FetchedBytes
 pub mod FileFindings
+pub mod WritingEnded
