@@ -1,9 +1,7 @@
 -- What the steps of `check` say of a certificate is what is to be said of the file.
 use Rattle.std.proofs.Common.{◌≡◌, ℕ, ◌+◌, ◌<◌, ◌≤◌, List, length, take, min, Option, Some, None, Result, Ok, Err, IfOk, refl, sym, ◌∙◌, subst, ap, arith}
-use Rattle.std.proofs.lemmas.List.{take_all, length-take}
 use Rattle.std.specs.declared.alloc.AllocError.{AllocError}
 use Rattle.std.below.core.specs.declared.int.usize.TheConstants as usize
-use Rattle.lw_io.specs.Files.{Files, IsHeldPart}
 use Rattle.lw_formula.specs.declared.logic.Logic.{Logic}
 use Rattle.lw_formula.specs.Formula.{Formula}
 use Rattle.lw_formula.specs.FiniteModel.{FiniteModel, IsWellFormed}
@@ -27,8 +25,8 @@ use Rattle.lw_cert.specs.Sheet.{Sheet, Content, Steps, Table}
 use Rattle.lw_cert.specs.Certificates.{IsContentOf, IsSheetOf, IsTextOf}
 use Rattle.lw_cli.specs.declared.finding.Finding.{Finding}
 use Rattle.lw_cli.specs.declared.finding.Finding.TheVariants.{FileLimit, ModelText, ProofText, Accepted, RejectedStep, RejectedModel}
-use Rattle.lw_cli.specs.Outcome.{file_limit}
-use Rattle.lw_cli.specs.Checked.{IsModelOf, IsJudged, IsFinding, too_long, no_model, no_proof, judged, IsFindingOf}
+use Rattle.lw_cli.specs.FileLimit.{file_limit}
+use Rattle.lw_cli.specs.Checked.{IsModelOf, IsJudged, IsFinding, too_long, no_model, no_proof, judged}
 use Rattle.lw_cli.specs.Private.CheckSteps.{IsRefutation, IsTextFault}
 
 pub finding_of_judged : (ts : List Formula) (c : Certificate) (text : List ℕ) (r : Result Finding AllocError) → length text ≤ file_limit → IsTextOf ts c text
@@ -88,22 +86,3 @@ rejected logic a t step why is = by (first_break logic a t) refl is
 
 pub refuted : (logic : Logic) (a : Formula) (m : FiniteModel) (w : ℕ) → Class logic m → w < m.worlds → (IsTrueAt m w a → ⊥) → Refutes logic m w a
 refuted logic a m w of within fails = record { in_class = of; within = within; fails = fails }
-
--- one byte more than n of a list: where that is at most n long, it is all of the list
-all_of : (n : ℕ) (part bytes : List ℕ) → part ≡ take (n + 1) bytes → length part ≤ n → part ≡ bytes
-all_of n part bytes is short =
-    let bound : length bytes ≤ n + 1 = omega (arith, length-take (n + 1) bytes, ap length is) in
-    is ∙ take_all (n + 1) bytes bound
-
-more_of : (n : ℕ) (part bytes : List ℕ) → part ≡ take (n + 1) bytes → n < length part → n < length bytes
-more_of n part bytes is long = omega (arith, length-take (n + 1) bytes, ap length is)
-
-finding_of_whole : (part bytes : List ℕ) (finding : Finding) → part ≡ take (file_limit + 1) bytes → IsFinding part finding → IsFinding bytes finding
-finding_of_whole part bytes _ is (too_long long) = too_long (more_of file_limit part bytes is long)
-finding_of_whole part bytes _ is (no_model line short told) = subst (λ xs. IsFinding xs (ModelText line)) (all_of file_limit part bytes is short) (no_model line short told)
-finding_of_whole part bytes _ is (no_proof line short told) = subst (λ xs. IsFinding xs (ProofText line)) (all_of file_limit part bytes is short) (no_proof line short told)
-finding_of_whole part bytes _ is (judged c finding short reads says) = subst (λ xs. IsFinding xs finding) (all_of file_limit part bytes is short) (judged c finding short reads says)
-
-pub finding_of_fetched : (holds : Option Files) (name part : List ℕ) (finding : Finding) → IsHeldPart holds name (file_limit + 1) part → IsFinding part finding → IsFindingOf holds name finding
-finding_of_fetched None name part finding held is = (part, tt, is)
-finding_of_fetched (Some files) name part finding (bytes, at, taken) is = (bytes, at, finding_of_whole part bytes finding taken is)

@@ -1,3 +1,2 @@
-pub mod FileAnswers
 pub mod FetchedBytes
 pub mod FileFindings

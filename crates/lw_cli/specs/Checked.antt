@@ -1,7 +1,6 @@
 -- The meaning of `check`: which finding a file's bytes allow.
 use Rattle.std.specs.Prelude.{◌≡◌, ℕ, ◌<◌, ◌≤◌, List, length, min, Option, Some}
 use Rattle.std.below.core.specs.declared.int.usize.TheConstants as usize
-use Rattle.lw_io.specs.Files.{Files, IsHeld}
 use Rattle.lw_formula.specs.declared.logic.Logic.{Logic}
 use Rattle.lw_formula.specs.Formula.{Formula}
 use Rattle.lw_formula.specs.FiniteModel.{FiniteModel, IsWellFormed}
@@ -16,7 +15,7 @@ use Rattle.lw_cert.specs.Certificates.{AreRowsOf}
 use Rattle.lw_cert.specs.CertificateFaults.{Reads, IsFaultOf}
 use Rattle.lw_cli.specs.declared.finding.Finding.{Finding}
 use Rattle.lw_cli.specs.declared.finding.Finding.TheVariants.{FileLimit, ModelText, ProofText, Accepted, RejectedStep, RejectedModel}
-use Rattle.lw_cli.specs.Outcome.{file_limit}
+use Rattle.lw_cli.specs.FileLimit.{file_limit}
 
 -- the model of the rows
 pub record IsModelOf (rows : List Row) (m : FiniteModel) : Type 0 where
@@ -39,7 +38,3 @@ pub data IsFinding (bytes : List ℕ) : Finding → Type 0 where
   no_model : (line : ℕ) → length bytes ≤ file_limit → IsFaultOf bytes (fault.ModelText line) → IsFinding bytes (ModelText line)
   no_proof : (line : ℕ) → length bytes ≤ file_limit → IsFaultOf bytes (fault.ProofText line) → IsFinding bytes (ProofText line)
   judged : (c : Sheet) (finding : Finding) → length bytes ≤ file_limit → Reads (pieces bytes) c → IsJudged c.logic c.formula c.content finding → IsFinding bytes finding
-
--- what is to be said of the named file, where the files are told
-abbrev pub IsFindingOf : Option Files → List ℕ → Finding → Type 0
-IsFindingOf holds name finding = (bytes : List ℕ) × IsHeld holds name bytes × IsFinding bytes finding

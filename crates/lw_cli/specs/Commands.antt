@@ -1,11 +1,11 @@
 -- The meaning of the commands: which output and which status a file's bytes allow.
 use Rattle.std.specs.Prelude.{◌≡◌, ℕ, List}
 use Rattle.lw_cli.specs.declared.asked.Command.{Command}
-use Rattle.lw_cli.specs.declared.asked.Command.TheVariants.{Prove, Check}
+use Rattle.lw_cli.specs.declared.asked.Command.TheVariants.{Run, Check}
 use Rattle.lw_cli.specs.declared.finding.Finding.{Finding}
-use Rattle.lw_cli.specs.Outcome.{ProveOutcome}
 use Rattle.lw_cli.specs.FindingLines.{finding_line, finding_status}
 use Rattle.lw_cli.specs.Checked.{IsFinding}
+use Rattle.lw_cli.specs.RunOutcomes.{RunOutcome, RunBegins}
 
 -- `check` allows this output and this status over a file of these bytes: the line of the finding and what goes with it
 pub record CheckOutcome (bytes out : List ℕ) (status : ℕ) : Type 0 where
@@ -16,5 +16,10 @@ pub record CheckOutcome (bytes out : List ℕ) (status : ℕ) : Type 0 where
 
 -- the command allows this output and this status over a file of these bytes
 abbrev pub Outcome : Command → List ℕ → List ℕ → ℕ → Type 0
-Outcome (Prove logic file) bytes out status = ProveOutcome logic bytes out status
+Outcome (Run file) bytes out status = RunOutcome bytes out status
 Outcome (Check file) bytes out status = CheckOutcome bytes out status
+
+-- over a file of these bytes the command has written this where it was cut: only `run` writes before it is at its end
+abbrev pub IsBegun : Command → List ℕ → List ℕ → Type 0
+IsBegun (Run file) bytes out = RunBegins bytes out
+IsBegun (Check file) bytes out = ⊥

@@ -3,10 +3,11 @@ use Rattle.std.specs.Prelude.{ℕ, List, [], ◌∷◌, ◌++◌, codes}
 use Rattle.std.specs.Fmt.{decimal}
 use Rattle.lw_cli.specs.declared.finding.Finding.{Finding}
 use Rattle.lw_cli.specs.declared.finding.Finding.TheVariants.{FileLimit, ModelText, ProofText, Accepted, RejectedStep, RejectedModel}
+use Rattle.lw_cli.specs.FaultLines.{file_limit_line}
 
 -- the finding's line, with its line feed
 abbrev pub finding_line : Finding → List ℕ
-finding_line FileLimit = codes "fault: file limit" ++ 10 ∷ []
+finding_line FileLimit = file_limit_line
 finding_line (ModelText line) = codes "fault: line " ++ (decimal line ++ (codes ": model text" ++ 10 ∷ []))
 finding_line (ProofText line) = codes "fault: line " ++ (decimal line ++ (codes ": proof text" ++ 10 ∷ []))
 finding_line Accepted = codes "accepted" ++ 10 ∷ []

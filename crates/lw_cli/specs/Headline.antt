@@ -1,12 +1,12 @@
 -- What the program's top call promises of its output: the words of its clauses.
 -- A store or a sink that doesn't tell its bytes meets `IsHeld`, `Adds` and `AddsPart` with any bytes; where both tell, these
 -- fix the file's bytes and the output.
-use Rattle.std.specs.Prelude.{◌≡◌, ℕ, Bool, List, Option, Some}
+use Rattle.std.specs.Prelude.{◌≡◌, ◌⊎◌, ℕ, Bool, List, Option, Some}
 use Rattle.lw_io.specs.Files.{Files, IsHeld, IsSure}
 use Rattle.lw_io.specs.Output.{Adds, AddsPart}
 use Rattle.lw_cli.specs.declared.asked.Command.{Command}
 use Rattle.lw_cli.specs.Asked.{command_of, file_of}
-use Rattle.lw_cli.specs.Commands.{Outcome}
+use Rattle.lw_cli.specs.Commands.{Outcome, IsBegun}
 
 -- the command allows this output and this status over the file that the store holds
 pub record IsOutput (command : Command) (holds : Option Files) (out : List ℕ) (status : ℕ) : Type 0 where
@@ -30,6 +30,18 @@ pub record AnswersPart (command : Command) (holds : Option Files) (before now : 
   pub status : ℕ
   pub output : IsOutput command holds out status
   pub written : AddsPart before now out
+
+-- what was written between the two moments is all that the command, where it was cut, has written
+pub record AnswersBegun (command : Command) (holds : Option Files) (before now : Option (List ℕ)) : Type 0 where
+  pub bytes : List ℕ
+  pub held : IsHeld holds (file_of command) bytes
+  pub out : List ℕ
+  pub begun : IsBegun command bytes out
+  pub written : Adds before now out
+
+-- what was written between the two moments is the one or the other
+abbrev pub IsCutShort : Command → Option Files → Option (List ℕ) → Option (List ℕ) → Type 0
+IsCutShort command holds before now = AnswersPart command holds before now ⊎ AnswersBegun command holds before now
 
 -- the store isn't sure of the command's file
 abbrev pub IsUnsureOf : Bool → Option Files → Command → Type 0

@@ -1,8 +1,9 @@
 pub mod Asked
-pub mod AnswerLines
-pub mod Outcome
+pub mod FileLimit
+pub mod FaultLines
 pub mod FindingLines
 pub mod Checked
+pub mod RunOutcomes
 pub mod Commands
 pub mod Headline
 pub mod Private

@@ -1,3 +1,3 @@
 -- Words that private contracts and proofs alone use.
-pub mod AnswerSteps
 pub mod CheckSteps
+pub mod ReportSteps

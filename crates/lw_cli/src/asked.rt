@@ -1,6 +1,6 @@
 ghost use Rattle.std.specs.Prelude.{◌≡◌, ℕ, List, IfOk, string_bytes};
+ghost use Rattle.lw_cli.specs.Asked.{file_of};
 
-use lw_formula::Logic;
 use std::alloc::{AllocError, Global};
 use std::marker::Model;
 
@@ -39,8 +39,19 @@ impl FileName {
 /// What the words of the command line ask for.
 #[derive(Debug, Drop)]
 pub enum Command {
-    /// Whether the formula of the file is valid in the logic.
-    Prove(Logic, FileName),
-    /// Whether the certificate of the file shows what it claims.
+    /// To carry out the script of the file.
+    Run(FileName),
+    /// To say whether the certificate of the file shows what it claims.
     Check(FileName),
+}
+
+impl Command {
+    /// The name of its file.
+    pub fn file(&self) -> &FileName
+        ensures { result.now ≡ file_of self.now }
+    {
+        match self {
+            Command::Run(file) | Command::Check(file) => file,
+        }
+    }
 }

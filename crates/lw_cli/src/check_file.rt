@@ -1,22 +1,19 @@
-ghost use Rattle.std.specs.Prelude.{◌≡◌, ◌≢◌, ◌≤◌, ◌<◌, ◌⊎◌, ℕ, List, IfOk, IsErrOf};
-ghost use Rattle.lw_io.specs.Causes.{Rose};
-ghost use Rattle.lw_io.specs.Files.{IsSure};
+ghost use Rattle.std.specs.Prelude.{◌≤◌, ◌<◌, ℕ, List, IfOk};
 ghost use Rattle.lw_pool.specs.Region.{IsLive, tree_at};
 ghost use Rattle.lw_proof.specs.Pooled.{IsProofLive, proof_at};
 ghost use Rattle.lw_cert.specs.Sheet.{Sheet, Steps};
 ghost use Rattle.lw_cert.specs.Certificates.{IsSheetOf};
-ghost use Rattle.lw_cli.specs.Checked.{IsFinding, IsFindingOf, IsJudged};
+ghost use Rattle.lw_cli.specs.Checked.{IsFinding, IsJudged};
+ghost use Rattle.lw_cli.specs.Commands.{CheckOutcome};
 ghost use Rattle.lw_cli.specs.Private.CheckSteps.{IsRefutation, IsTextFault};
 ghost use Rattle.lw_cert.specs.CertificateFaults.{IsFaultOf};
-ghost use Rattle.lw_cli.specs.Headline.{Answers, AnswersPart, IsUnsureOf};
 
-use crate::asked::{Command, FileName};
+use crate::file_limit::FILE_LIMIT;
 use crate::finding::Finding;
-use crate::prove::FILE_LIMIT;
+use crate::report::Report;
 use lw_cert::{Body, CertFault, Certificate, read_certificate};
 use lw_check::{Verdict, check};
 use lw_formula::Logic;
-use lw_io::{FetchFault, Sink, Store};
 use lw_model::{Model, holds, in_class};
 use lw_pool::{FormId, Pool};
 use lw_proof::Proof;
@@ -102,52 +99,14 @@ fn model_finding(
     }
 }
 
-/// What is to be said of the named file. Its faults are those of the fetch, and want of memory.
-fn finding_file<S: Store>(
-    alloc: Global,
-    file: &FileName,
-    store: &mut S,
-) -> Result<Finding, FetchFault>
-    ensures finding { IfOk result (IsFindingOf (S.holds store.old) file.now) }
-    ensures cause { IsErrOf result FetchFault.Failed → Rose (S.faults store.old) (S.faults store.new) }
-    ensures unsure { IsErrOf result FetchFault.Failed → ¬ IsSure (S.sure store.old) (S.holds store.old) file.now }
+/// What is to be said of the certificate whose text these bytes are. It fails for want of memory alone.
+pub fn check_report(alloc: Global, bytes: &[u8]) -> Result<Report, AllocError>
+    ensures report { IfOk result (λ report. CheckOutcome bytes.now report.line.items report.status) }
+    ensures status { IfOk result (λ report. report.status ≤ 1) }
 {
-    let bytes = store.fetch(alloc, file.as_str(), FILE_LIMIT)?;
-    match finding_of(alloc, bytes.as_slice()) {
-        Ok(finding) => Ok(finding),
-        Err(_) => Err(FetchFault::Memory),
-    }
-}
-
-/// Writes what is to be said of the certificate in the named file, and answers the status with which the program ends.
-pub fn check_file<S: Store, K: Sink>(
-    alloc: Global,
-    file: &FileName,
-    store: &mut S,
-    sink: &mut K,
-) -> u8
-    ensures carried_out { (result ≡ 0) ⊎ (result ≡ 1) →
-        Answers (Command.Check file.now) (S.holds store.old) (K.written sink.old) (K.written sink.new) result }
-    ensures no_refusal { result ≢ 2 }
-    ensures store_failed { result ≡ 3 → Rose (S.faults store.old) (S.faults store.new) }
-    ensures store_unsure { result ≡ 3 → IsUnsureOf (S.sure store.old) (S.holds store.old) (Command.Check file.now) }
-    ensures store_unwritten { result ≡ 3 → K.written sink.new ≡ K.written sink.old }
-    ensures sink_failed { result ≡ 4 → Rose (K.faults sink.old) (K.faults sink.new) }
-    ensures sink_part { result ≡ 4 → AnswersPart (Command.Check file.now) (S.holds store.old) (K.written sink.old) (K.written sink.new) }
-    ensures no_memory { result ≡ 5 → (K.written sink.new ≡ K.written sink.old)
-        ⊎ AnswersPart (Command.Check file.now) (S.holds store.old) (K.written sink.old) (K.written sink.new) }
-    ensures no_other { result ≤ 5 }
-{
-    let finding = match finding_file(alloc, file, store) {
-        Err(FetchFault::Failed) => return 3,
-        Err(FetchFault::Memory) => return 5,
-        Ok(finding) => finding,
-    };
-    let Ok(line) = finding.line(alloc) else {
-        return 5;
-    };
-    if let Err(_) = sink.write(line.as_bytes()) {
-        return 4;
-    }
-    finding.status()
+    let finding = finding_of(alloc, bytes)?;
+    Ok(Report {
+        line: finding.line(alloc)?.into_bytes(),
+        status: finding.status(),
+    })
 }

@@ -1,6 +1,7 @@
 ghost use Rattle.std.specs.Prelude.{◌≡◌, ◌≤◌, IfOk, string_bytes};
 ghost use Rattle.lw_cli.specs.FindingLines.{finding_line, finding_status};
 
+use crate::fault_line::FILE_LIMIT_LINE;
 use std::alloc::{AllocError, Global};
 
 /// What `check` has to say of a file, in one line.
@@ -26,7 +27,7 @@ impl Finding {
         ensures { IfOk result (λ line. string_bytes line ≡ finding_line self) }
     {
         match self {
-            Finding::FileLimit => String::from_str(alloc, "fault: file limit\n"),
+            Finding::FileLimit => String::from_str(alloc, FILE_LIMIT_LINE),
             Finding::ModelText(line) => format!(in alloc; "fault: line {line}: model text\n"),
             Finding::ProofText(line) => format!(in alloc; "fault: line {line}: proof text\n"),
             Finding::Accepted => String::from_str(alloc, "accepted\n"),

@@ -1,11 +1,9 @@
 ghost use Rattle.std.specs.Prelude.{◌≡◌, ◌≤◌, ◌⊎◌, ◌↔◌, None, map, string_bytes};
 ghost use Rattle.lw_io.specs.Causes.{Rose};
 ghost use Rattle.lw_cli.specs.Asked.{command_of};
-ghost use Rattle.lw_cli.specs.Headline.{AsksFor, Answers, AnswersPart, IsUnsureOf};
+ghost use Rattle.lw_cli.specs.Headline.{AsksFor, Answers, IsCutShort, IsUnsureOf};
 
-use crate::asked::Command;
-use crate::check_file::check_file;
-use crate::prove::prove;
+use crate::carry_out::carry_out;
 use crate::words::command;
 use lw_io::{Sink, Store};
 use std::alloc::Global;
@@ -36,20 +34,20 @@ pub fn workbench<S: Store, K: Sink>(
     ensures store_unsure { result ≡ 3 → AsksFor (map string_bytes words.now) (IsUnsureOf (S.sure store.old) (S.holds store.old)) }
     ensures store_unwritten { result ≡ 3 → K.written sink.new ≡ K.written sink.old }
 
-    // After a fault of the sink, or without memory, what was written is a first part of such an output.
+    // After a fault of the sink, or without memory, what was written is a first part of such an output, or what a run of the
+    // file's script has written where it was cut.
     ensures sink_failed { result ≡ 4 → Rose (K.faults sink.old) (K.faults sink.new) }
     ensures sink_part { result ≡ 4 → AsksFor (map string_bytes words.now) (λ command.
-        AnswersPart command (S.holds store.old) (K.written sink.old) (K.written sink.new)) }
+        IsCutShort command (S.holds store.old) (K.written sink.old) (K.written sink.new)) }
     ensures no_memory { result ≡ 5 → (K.written sink.new ≡ K.written sink.old)
         ⊎ AsksFor (map string_bytes words.now) (λ command.
-        AnswersPart command (S.holds store.old) (K.written sink.old) (K.written sink.new)) }
+        IsCutShort command (S.holds store.old) (K.written sink.old) (K.written sink.new)) }
 
     ensures no_other { result ≤ 5 }
 {
     match command(alloc, words) {
         Err(_) => 5,
         Ok(None) => 2,
-        Ok(Some(Command::Prove(logic, file))) => prove(alloc, logic, &file, store, sink),
-        Ok(Some(Command::Check(file))) => check_file(alloc, &file, store, sink),
+        Ok(Some(command)) => carry_out(alloc, &command, store, sink),
     }
 }

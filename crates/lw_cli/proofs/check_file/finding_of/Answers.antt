@@ -1,5 +1,5 @@
 use Rattle.std.proofs.Common.{◌≤◌, length, arith}
-use Rattle.lw_cli.specs.Outcome.{file_limit}
+use Rattle.lw_cli.specs.FileLimit.{file_limit}
 use Rattle.lw_cli.specs.Checked.{too_long}
 use Rattle.lw_cli.proofs.FileFindings.{finding_of_judged, finding_of_refusal}
 use Rattle.lw_cli.proofs.check_file.finding_of.Goals as goal
