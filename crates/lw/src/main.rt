@@ -1,5 +1,5 @@
-//! The workbench's program: `prove LOGIC FILE` reads a formula and writes whether it is valid in the logic, and
-//! `check FILE` reads a certificate and writes whether it shows what it claims.
+//! The workbench's program: `run FILE` carries out a script, and `check FILE` reads a certificate and writes whether it
+//! shows what it claims.
 #![tactic(auto)]
 
 use lw_cli::workbench;

@@ -59,7 +59,7 @@ fn certified_in(
     Ok(certificate_text(alloc, pool, &certificate)?)
 }
 
-// What `prove` and `check` write in the logic, with their statuses.
+// What `run` and `check` write in the logic, with their statuses.
 fn logic_line(setting: &Setting, logic: Logic) -> Result<Vec<u8>, Unanswered> {
     let certificate = certified(setting.alloc, logic, &setting.text)?;
     let lines = both_lines(setting, logic, certificate)?;
@@ -68,7 +68,8 @@ fn logic_line(setting: &Setting, logic: Logic) -> Result<Vec<u8>, Unanswered> {
     Ok(line)
 }
 
-/// In each logic what `prove` writes of the text, and what `check` writes of the certificate of what is decided.
+/// In each logic what `run` writes where the text is asked for, and what `check` writes of the certificate of what is
+/// decided.
 pub fn logics_line(setting: &Setting) -> Result<Vec<u8>, Unanswered> {
     let mut line = Vec::new(setting.alloc);
     for logic in &LOGICS {

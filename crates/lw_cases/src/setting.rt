@@ -5,7 +5,7 @@ use lw_io::{MemorySink, MemoryStore};
 use std::alloc::{AllocError, Global};
 
 /// The name of the file that the store holds.
-pub const FILE: &str = "file";
+const FILE: &str = "file";
 
 /// What the next cases are about.
 #[derive(Drop)]

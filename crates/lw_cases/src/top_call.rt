@@ -1,4 +1,4 @@
-use crate::setting::{FILE, Setting};
+use crate::setting::Setting;
 use lw_cli::workbench;
 use lw_formula::Logic;
 use std::alloc::{AllocError, Global};
@@ -32,14 +32,24 @@ pub fn run_line(setting: &Setting, words: &str) -> Result<Vec<u8>, AllocError> {
     Ok(line)
 }
 
-/// What `prove` writes of the text in the logic, and what `check` writes of the certificate.
+// The script that asks whether the formula is valid in the logic.
+fn question(alloc: Global, logic: Logic, formula: &[u8]) -> Result<Vec<u8>, AllocError> {
+    let mut script = format!(in alloc; "print provable({}, ", logic.word())?.into_bytes();
+    script.extend_from_slice(formula)?;
+    script.extend_from_slice(b");")?;
+    Ok(script)
+}
+
+/// What `run` writes where the script asks for the text's formula in the logic, and what `check` writes of the
+/// certificate.
 pub fn both_lines(
     setting: &Setting,
     logic: Logic,
     certificate: Vec<u8>,
 ) -> Result<Vec<u8>, AllocError> {
-    let words = format!(in setting.alloc; "prove {} {FILE}", logic.word())?;
-    let mut line = run_line(setting, words.as_str())?;
+    let mut asked = Setting::new(setting.alloc);
+    asked.text = question(setting.alloc, logic, &setting.text)?;
+    let mut line = run_line(&asked, "run file")?;
     let mut shown = Setting::new(setting.alloc);
     shown.text = certificate;
     line.extend_from_slice(&run_line(&shown, "check file")?)?;

@@ -1,17 +1,21 @@
 -- What a command may write over the first bytes that a fetch gives, it may write over the whole file.
-use Rattle.std.proofs.Common.{◌≡◌, ℕ, ◌+◌, ◌<◌, ◌≤◌, List, length, take, Option, Some, None, ◌∙◌, subst, ap, arith}
+use Rattle.std.proofs.Common.{◌≡◌, ℕ, ◌+◌, ◌<◌, ◌≤◌, List, ◌++◌, length, take, Option, Some, None, ◌⊎◌, inl, inr, sym, ◌∙◌, subst, ap, arith}
 use Rattle.std.proofs.lemmas.List.{take_all, length-take}
-use Rattle.lw_io.specs.Files.{Files, IsHeld, IsHeldPart}
+use Rattle.lw_io.specs.Files.{Files, IsHeldPart}
 use Rattle.lw_cli.specs.declared.asked.Command.{Command}
 use Rattle.lw_cli.specs.declared.asked.Command.TheVariants.{Run, Check}
 use Rattle.lw_cli.specs.declared.finding.Finding.{Finding}
 use Rattle.lw_cli.specs.declared.finding.Finding.TheVariants.{ModelText, ProofText}
 use Rattle.lw_cli.specs.FileLimit.{file_limit}
+use Rattle.lw_cli.specs.FaultLines.{syntax_line, trouble_line}
 use Rattle.lw_cli.specs.Checked as check
 use Rattle.lw_cli.specs.Checked.{IsFinding}
 use Rattle.lw_cli.specs.RunOutcomes as run
 use Rattle.lw_cli.specs.RunOutcomes.{RunOutcome, RunBegins}
-use Rattle.lw_cli.specs.Commands.{CheckOutcome, Outcome, IsBegun}
+use Rattle.lw_cli.specs.Commands.{Outcome, IsBegun}
+use Rattle.lw_cli.specs.Asked.{file_of}
+use Rattle.lw_cli.specs.Headline.{Answers, AnswersPart, AnswersBegun, IsCutShort}
+use Rattle.lw_cli.specs.Private.ReportSteps.{Wrote, WrotePart, WroteBegun, IsShort}
 
 -- one byte more than n of a list: where that is at most n long, it is all of the list
 all_of : (n : ℕ) (part bytes : List ℕ) → part ≡ take (n + 1) bytes → length part ≤ n → part ≡ bytes
@@ -33,12 +37,12 @@ finding_of_whole part bytes _ is (check.judged c finding short reads says) =
 
 run_of_whole : (part bytes out : List ℕ) (status : ℕ) → part ≡ take (file_limit + 1) bytes → RunOutcome part out status → RunOutcome bytes out status
 run_of_whole part bytes _ _ is (run.too_long long) = run.too_long (more_of file_limit part bytes is long)
-run_of_whole part bytes out status is (run.refused line column why short told) =
-    subst (λ xs. RunOutcome xs _ _) (all_of file_limit part bytes is short) (run.refused line column why short told)
-run_of_whole part bytes out status is (run.done s _ short reads allows) =
-    subst (λ xs. RunOutcome xs _ _) (all_of file_limit part bytes is short) (run.done s _ short reads allows)
-run_of_whole part bytes out status is (run.stopped s written line t short reads allows) =
-    subst (λ xs. RunOutcome xs _ _) (all_of file_limit part bytes is short) (run.stopped s written line t short reads allows)
+run_of_whole part bytes _ _ is (run.refused line column why short told) =
+    subst (λ xs. RunOutcome xs (syntax_line line column why) 1) (all_of file_limit part bytes is short) (run.refused line column why short told)
+run_of_whole part bytes _ _ is (run.done s out short reads allows) =
+    subst (λ xs. RunOutcome xs out 0) (all_of file_limit part bytes is short) (run.done s out short reads allows)
+run_of_whole part bytes _ _ is (run.stopped s out line t short reads allows) =
+    subst (λ xs. RunOutcome xs (out ++ trouble_line line t) 1) (all_of file_limit part bytes is short) (run.stopped s out line t short reads allows)
 
 outcome_of_whole : (command : Command) (part bytes out : List ℕ) (status : ℕ) → part ≡ take (file_limit + 1) bytes → Outcome command part out status → Outcome command bytes out status
 outcome_of_whole (Run file) part bytes out status is outcome = run_of_whole part bytes out status is outcome
@@ -53,18 +57,46 @@ begun_of_whole : (command : Command) (part bytes out : List ℕ) → part ≡ ta
 begun_of_whole (Run file) part bytes out is begun = subst (λ xs. RunBegins xs out) (all_of file_limit part bytes is begun.short) begun
 begun_of_whole (Check file) part bytes out is begun = absurd begun
 
--- the bytes of the named file are those of which the fetch gave the first
-pub record IsWhole (command : Command) (holds : Option Files) (name part : List ℕ) : Type 0 where
-  pub bytes : List ℕ
-  pub held : IsHeld holds name bytes
-  pub outcome : (out : List ℕ) (status : ℕ) → Outcome command part out status → Outcome command bytes out status
-  pub begun : (out : List ℕ) → IsBegun command part out → IsBegun command bytes out
-
-pub fetched_whole : (command : Command) (holds : Option Files) (name part : List ℕ) → IsHeldPart holds name (file_limit + 1) part → IsWhole command holds name part
-fetched_whole command None name part held = record { bytes = part; held = tt; outcome = λ out status o. o; begun = λ out b. b }
-fetched_whole command (Some files) name part (bytes, at, taken) = record {
-  bytes = bytes;
-  held = at;
-  outcome = λ out status o. outcome_of_whole command part bytes out status taken o;
-  begun = λ out b. begun_of_whole command part bytes out taken b;
+-- what was written over the bytes that the fetch gave is what may be written over the file
+pub answers_whole : (command : Command) (holds : Option Files) (part : List ℕ) (before now : Option (List ℕ)) (status : ℕ) → IsHeldPart holds (file_of command) (file_limit + 1) part
+    → Wrote (Outcome command part) before now status → Answers command holds before now status
+answers_whole command None part before now status held wrote =
+    record { out = wrote.out; output = record { bytes = part; held = tt; outcome = wrote.allowed }; written = wrote.written }
+answers_whole command (Some files) part before now status (bytes, at, taken) wrote = record {
+  out = wrote.out;
+  output = record { bytes = bytes; held = at; outcome = outcome_of_whole command part bytes wrote.out status taken wrote.allowed };
+  written = wrote.written;
 }
+
+part_whole : (command : Command) (holds : Option Files) (part : List ℕ) (before now : Option (List ℕ)) → IsHeldPart holds (file_of command) (file_limit + 1) part
+    → WrotePart (Outcome command part) before now → AnswersPart command holds before now
+part_whole command None part before now held wrote =
+    record { out = wrote.out; status = wrote.status; output = record { bytes = part; held = tt; outcome = wrote.allowed }; written = wrote.written }
+part_whole command (Some files) part before now (bytes, at, taken) wrote = record {
+  out = wrote.out;
+  status = wrote.status;
+  output = record { bytes = bytes; held = at; outcome = outcome_of_whole command part bytes wrote.out wrote.status taken wrote.allowed };
+  written = wrote.written;
+}
+
+begun_whole : (command : Command) (holds : Option Files) (part : List ℕ) (before now : Option (List ℕ)) → IsHeldPart holds (file_of command) (file_limit + 1) part
+    → WroteBegun (IsBegun command part) before now → AnswersBegun command holds before now
+begun_whole command None part before now held wrote = record { bytes = part; held = tt; out = wrote.out; begun = wrote.is_begun; written = wrote.written }
+begun_whole command (Some files) part before now (bytes, at, taken) wrote =
+    record { bytes = bytes; held = at; out = wrote.out; begun = begun_of_whole command part bytes wrote.out taken wrote.is_begun; written = wrote.written }
+
+pub short_whole : (command : Command) (holds : Option Files) (part : List ℕ) (before now : Option (List ℕ)) → IsHeldPart holds (file_of command) (file_limit + 1) part
+    → IsShort (Outcome command part) (IsBegun command part) before now → IsCutShort command holds before now
+short_whole command holds part before now held (inl wrote) = inl (part_whole command holds part before now held wrote)
+short_whole command holds part before now held (inr wrote) = inr (begun_whole command holds part before now held wrote)
+
+pub nothing_or_short : (command : Command) (holds : Option Files) (part : List ℕ) (before now : Option (List ℕ)) → IsHeldPart holds (file_of command) (file_limit + 1) part
+    → (now ≡ before) ⊎ IsShort (Outcome command part) (IsBegun command part) before now → (now ≡ before) ⊎ IsCutShort command holds before now
+nothing_or_short command holds part before now held (inl same) = inl same
+nothing_or_short command holds part before now held (inr short) = inr (short_whole command holds part before now held short)
+
+-- the same under other names
+pub held_as : (holds : Option Files) (given file name read part : List ℕ) → given ≡ file → file ≡ name → part ≡ read → IsHeldPart holds given (file_limit + 1) read
+    → IsHeldPart holds name (file_limit + 1) part
+held_as holds given file name read part text is same held =
+    subst (λ x. IsHeldPart holds x (file_limit + 1) part) (text ∙ is) (subst (λ xs. IsHeldPart holds given (file_limit + 1) xs) (sym same) held)

@@ -1,5 +1,5 @@
 -- What the steps of `check` say of a certificate is what is to be said of the file.
-use Rattle.std.proofs.Common.{◌≡◌, ℕ, ◌+◌, ◌<◌, ◌≤◌, List, length, take, min, Option, Some, None, Result, Ok, Err, IfOk, refl, sym, ◌∙◌, subst, ap, arith}
+use Rattle.std.proofs.Common.{◌≡◌, ℕ, ◌<◌, ◌≤◌, List, length, min, Option, Some, None, Result, Ok, Err, IfOk, refl, sym, subst}
 use Rattle.std.specs.declared.alloc.AllocError.{AllocError}
 use Rattle.std.below.core.specs.declared.int.usize.TheConstants as usize
 use Rattle.lw_formula.specs.declared.logic.Logic.{Logic}
@@ -26,7 +26,7 @@ use Rattle.lw_cert.specs.Certificates.{IsContentOf, IsSheetOf, IsTextOf}
 use Rattle.lw_cli.specs.declared.finding.Finding.{Finding}
 use Rattle.lw_cli.specs.declared.finding.Finding.TheVariants.{FileLimit, ModelText, ProofText, Accepted, RejectedStep, RejectedModel}
 use Rattle.lw_cli.specs.FileLimit.{file_limit}
-use Rattle.lw_cli.specs.Checked.{IsModelOf, IsJudged, IsFinding, too_long, no_model, no_proof, judged}
+use Rattle.lw_cli.specs.Checked.{IsModelOf, IsJudged, IsFinding, no_model, no_proof, judged}
 use Rattle.lw_cli.specs.Private.CheckSteps.{IsRefutation, IsTextFault}
 
 pub finding_of_judged : (ts : List Formula) (c : Certificate) (text : List ℕ) (r : Result Finding AllocError) → length text ≤ file_limit → IsTextOf ts c text

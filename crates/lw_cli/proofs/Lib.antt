@@ -1,2 +1,3 @@
 pub mod FetchedBytes
 pub mod FileFindings
+pub mod WritingEnded

@@ -1,5 +1,5 @@
 -- The meaning of `check`: which finding a file's bytes allow.
-use Rattle.std.specs.Prelude.{◌≡◌, ℕ, ◌<◌, ◌≤◌, List, length, min, Option, Some}
+use Rattle.std.specs.Prelude.{◌≡◌, ℕ, ◌<◌, ◌≤◌, List, length, min, Some}
 use Rattle.std.below.core.specs.declared.int.usize.TheConstants as usize
 use Rattle.lw_formula.specs.declared.logic.Logic.{Logic}
 use Rattle.lw_formula.specs.Formula.{Formula}

@@ -86,6 +86,6 @@ fn report_of<K: Sink>(
 {
     match command {
         Command::Run(_) => run_report(alloc, bytes, sink),
-        Command::Check(_) => check_report(alloc, bytes).map_err(|_| ReportFault::Memory),
+        Command::Check(_) => Ok(check_report(alloc, bytes)?),
     }
 }

@@ -60,7 +60,11 @@ fn trouble_words(alloc: Global, trouble: &Trouble) -> Result<Vec<u8>, AllocError
         Trouble::NotModalised => words(alloc, "not modalised", b""),
         Trouble::TooManyBoxes { count } => counted(alloc, "too many boxes ", *count),
         Trouble::NotIntuitionistic { what } => {
-            words(alloc, "not intuitionistic ", connective_word(*what).as_bytes())
+            words(
+                alloc,
+                "not intuitionistic ",
+                connective_word(*what).as_bytes(),
+            )
         }
         Trouble::Unbound { name } => words(alloc, "unbound ", name.as_bytes()),
         Trouble::Kind => words(alloc, "kind", b""),

@@ -1,9 +1,10 @@
-ghost use Rattle.std.specs.Prelude.{◌≡◌, ◌≤◌, IfOk, OnOk, OnErr};
+ghost use Rattle.std.specs.Prelude.{◌≡◌, ◌≤◌, OnOk, OnErr};
 ghost use Rattle.lw_io.specs.Causes.{Rose};
 ghost use Rattle.lw_io.specs.Output.{Adds, AddsPart};
+ghost use Rattle.lw_cli.specs.declared.report.ReportFault.TheVariants.{Memory};
 
 use lw_io::{Failed, Sink};
-use std::alloc::{AllocError, Global};
+use std::alloc::AllocError;
 
 /// What a command has to say when it is at its end.
 #[derive(Debug, Drop)]
@@ -21,6 +22,14 @@ pub enum ReportFault {
     SinkFailed,
     /// Memory ran out.
     Memory,
+}
+
+impl From<AllocError> for ReportFault {
+    ghost from_gives = { λ _ fault. fault ≡ Memory };
+
+    fn from(_error: AllocError) -> Self {
+        ReportFault::Memory
+    }
 }
 
 impl Report {

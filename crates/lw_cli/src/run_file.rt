@@ -19,11 +19,7 @@ use lw_value::Env;
 use std::alloc::{AllocError, Global};
 
 /// Runs the script whose text these bytes are. What it prints goes to the sink.
-pub fn run_report<K: Sink>(
-    alloc: Global,
-    bytes: &[u8],
-    sink: &mut K,
-) -> Result<Report, ReportFault>
+pub fn run_report<K: Sink>(alloc: Global, bytes: &[u8], sink: &mut K) -> Result<Report, ReportFault>
     ensures report { IfOk result (Reports (RunOutcome bytes.now) (K.written sink.old) (K.written sink.new)) }
     ensures status { IfOk result (λ report. report.status ≤ 1) }
     ensures failed { IsErrOf result ReportFault.SinkFailed →
@@ -34,11 +30,11 @@ pub fn run_report<K: Sink>(
     ensures later { K.faults sink.old ≤ K.faults sink.new }
 {
     if bytes.len() > FILE_LIMIT {
-        return limit_report(alloc).map_err(|_| ReportFault::Memory);
+        return Ok(limit_report(alloc)?);
     }
     match read_script(alloc, bytes) {
         Ok(script) => script_report(alloc, &script, sink),
-        Err(fault) => refusal_report(alloc, bytes, fault).map_err(|_| ReportFault::Memory),
+        Err(fault) => Ok(refusal_report(alloc, bytes, fault)?),
     }
 }
 
@@ -88,9 +84,7 @@ fn script_report<K: Sink>(
             line: Vec::new(alloc),
             status: 0,
         }),
-        Err(RunFault::Stopped { line, trouble }) => {
-            trouble_report(alloc, line, &trouble).map_err(|_| ReportFault::Memory)
-        }
+        Err(RunFault::Stopped { line, trouble }) => Ok(trouble_report(alloc, line, &trouble)?),
         Err(RunFault::SinkFailed) => Err(ReportFault::SinkFailed),
         Err(RunFault::Memory) => Err(ReportFault::Memory),
     }
