@@ -1,3 +1,4 @@
 pub mod FetchedBytes
 pub mod FileFindings
+pub mod SoundScripts
 pub mod WritingEnded

@@ -6,4 +6,5 @@ pub mod Checked
 pub mod RunOutcomes
 pub mod Commands
 pub mod Headline
+pub mod Completeness
 pub mod Private

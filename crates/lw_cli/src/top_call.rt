@@ -1,10 +1,12 @@
-ghost use Rattle.std.specs.Prelude.{◌≡◌, ◌≤◌, ◌⊎◌, ◌↔◌, None, map, string_bytes};
+ghost use Rattle.std.specs.Prelude.{◌≡◌, ◌≢◌, ◌≤◌, ◌⊎◌, ◌↔◌, None, map, string_bytes};
 ghost use Rattle.lw_io.specs.Causes.{Rose};
 ghost use Rattle.lw_cli.specs.Asked.{command_of};
 ghost use Rattle.lw_cli.specs.Headline.{AsksFor, Answers, IsCutShort, IsUnsureOf};
+ghost use Rattle.lw_cli.specs.Completeness.{IsSureOf, RunsSoundScript};
 
 use crate::carry_out::carry_out;
 use crate::words::command;
+use lw_ast::{one_script, one_script_answer};
 use lw_io::{Sink, Store};
 use std::alloc::Global;
 
@@ -44,7 +46,15 @@ pub fn workbench<S: Store, K: Sink>(
         IsCutShort command (S.holds store.old) (K.written sink.old) (K.written sink.new)) }
 
     ensures no_other { result ≤ 5 }
+
+    // Where the store is sure of the file and the sink takes all, the command is carried out, or memory is wanting.
+    ensures sure { AsksFor (map string_bytes words.now) (IsSureOf (S.sure store.old) (S.holds store.old)) →
+        ¬ Rose (K.faults sink.old) (K.faults sink.new) → (result ≡ 0) ⊎ ((result ≡ 1) ⊎ (result ≡ 5)) }
+    // Of a script no run of which ends in a trouble, nothing is said to be wrong.
+    ensures sound { AsksFor (map string_bytes words.now) (RunsSoundScript (S.holds store.old)) → result ≢ 1 }
 {
+    one_script();
+    one_script_answer();
     match command(alloc, words) {
         Err(_) => 5,
         Ok(None) => 2,
