@@ -1,0 +1,3 @@
+pub mod BinaryDigits
+pub mod SmallFamilies
+pub mod SummedCounts

@@ -1,0 +1,12 @@
+//! Families of formulas made from a number, and how many of them are valid in each logic.
+#![tactic(auto)]
+
+mod counts;
+mod families;
+mod formulas;
+mod questions;
+
+pub use counts::Summary;
+pub use families::Family;
+pub use formulas::family;
+pub use questions::summary;
