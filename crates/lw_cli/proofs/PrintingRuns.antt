@@ -1,5 +1,5 @@
 -- What a script of one print statement writes of a certificate.
-use Rattle.std.proofs.Common.{◌≡◌, ℕ, ◌+◌, List, [], ◌∷◌, ◌++◌, refl, sym, ◌∙◌, ap, subst}
+use Rattle.std.proofs.Common.{◌≡◌, ℕ, List, [], ◌∷◌, ◌++◌, refl, sym, ◌∙◌, ap, subst}
 use Rattle.std.proofs.lemmas.List.{append-nil}
 use Rattle.lw_formula.specs.declared.logic.Logic.{Logic}
 use Rattle.lw_formula.specs.Formula.{Formula}
@@ -13,7 +13,7 @@ use Rattle.lw_eval.specs.Evaluations.{Evaluation, Got, Fails, Is, Bind}
 use Rattle.lw_eval.specs.Calls.{Certifies, Decided, Calls}
 use Rattle.lw_eval.specs.Expressions.{Variables, Eval, Evals}
 use Rattle.lw_eval.specs.Runs.{End, Done, Nothing, Then, Step, With, Prints, Does, DoesStep, Run}
-use Rattle.lw_cli.specs.Laws.{CertificateIsPrinted}
+use Rattle.lw_cli.specs.Laws.{certificate_call, CertificateIsPrinted}
 
 -- what is written is the line of the values that the expressions come to
 print_writes : (line : ℕ) (es : Expressions) (env env2 : Variables) (k k2 : ℕ) (out : List ℕ) (end : End) → end ≡ Done → Does line (tree.print es) env k env2 k2 out end
@@ -86,7 +86,7 @@ certified_is : (l : Logic) (a : Formula) (r : Evaluation (Val Formula)) (v : Val
 certified_is l a _ v is (Certifies.by_proof P lean) = (proved P, got_same v (certificate l a (proved P)) (sym is))
 certified_is l a _ v is (Certifies.by_model m w refutes bounds) = (refuted m w, got_same v (certificate l a (refuted m w)) (sym is))
 
-certificate_evaluated : (env : Variables) (l : Logic) (e : Expression) (v : Val Formula) → Eval env (tree.call Certificate (tree.more (tree.logic l) (tree.more e tree.none))) (Got v)
+certificate_evaluated : (env : Variables) (l : Logic) (e : Expression) (v : Val Formula) → Eval env (certificate_call l e) (Got v)
     → (a : Formula) × Eval env e (Got (formula a)) × Certifies l a (Got v)
 certificate_evaluated env l e v evaluated =
     let call = bind_got (Evals env (tree.more (tree.logic l) (tree.more e tree.none))) (Calls Certificate) (Got v) v refl evaluated in
@@ -103,15 +103,18 @@ line_of_one v out (t ∷ u ∷ us, texts, is) = absurd texts.1
 
 pub certificate_is_printed : CertificateIsPrinted
 certificate_is_printed line l e out allows =
-    let written = run_writes line (tree.more (tree.call Certificate (tree.more (tree.logic l) (tree.more e tree.none))) tree.none) [] allows.env 0 allows.steps out Done refl allows.run in
-    let one = one_evaluated [] (tree.call Certificate (tree.more (tree.logic l) (tree.more e tree.none))) written.0 written.1 in
+    let written = run_writes line (tree.more (certificate_call l e) tree.none) [] allows.env 0 allows.steps out Done refl allows.run in
+    let one = one_evaluated [] (certificate_call l e) written.0 written.1 in
     let given = certificate_evaluated [] l e one.0 one.1 in
     let is = certified_is l given.0 (Got one.0) one.0 refl given.2 in
-    let printed = line_of_one one.0 out (subst (λ vs. IsLineOf vs out) one.2 written.2) in
-    (given.0, given.1, record {
-      evidence = is.0;
-      certifies = subst (λ v. Certifies l given.0 (Got v)) is.1 given.2;
-      text = printed.0;
-      is_text = subst (λ v. IsTextOf v printed.0) is.1 printed.1;
-      line = printed.2;
-    })
+    let printed = line_of_one one.0 out (subst (λ vs. IsLineOf vs out) one.2 written.2) in (
+      given.0,
+      given.1,
+      record {
+        evidence = is.0;
+        certifies = subst (λ v. Certifies l given.0 (Got v)) is.1 given.2;
+        text = printed.0;
+        is_text = subst (λ v. IsTextOf v printed.0) is.1 printed.1;
+        line = printed.2;
+      },
+    )

@@ -32,15 +32,22 @@ pub record IsPrintedCertificate (l : Logic) (a : Formula) (bytes : List ℕ) : T
 abbrev pub ReadsAsPrinted : (l : Logic) (a : Formula) (bytes : List ℕ) → IsPrintedCertificate l a bytes → Type 0
 ReadsAsPrinted l a bytes printed = Reads (pieces bytes) (record { logic = l; formula = a; content = printed.is_text.content })
 
--- over such bytes, within the limit, `check` allows `accepted` with status 0, and nothing else
+-- over these bytes `check` allows `accepted` with status 0, and nothing else
+abbrev pub IsAcceptedAlone : List ℕ → Type 0
+IsAcceptedAlone bytes = (out : List ℕ) (status : ℕ) → CheckOutcome bytes out status ↔ ((out ≡ finding_line Accepted) × (status ≡ 0))
+
+-- so it is with what is printed of a certificate, within the limit, if it reads as that certificate
 abbrev pub PrintedIsAccepted : Type 0
-PrintedIsAccepted = (l : Logic) (a : Formula) (bytes : List ℕ) (printed : IsPrintedCertificate l a bytes) → ReadsAsPrinted l a bytes printed →
-    length bytes ≤ file_limit → (out : List ℕ) (status : ℕ) → CheckOutcome bytes out status ↔ ((out ≡ finding_line Accepted) × (status ≡ 0))
+PrintedIsAccepted = (l : Logic) (a : Formula) (bytes : List ℕ) (printed : IsPrintedCertificate l a bytes) →
+    ReadsAsPrinted l a bytes printed → length bytes ≤ file_limit → IsAcceptedAlone bytes
+
+-- the expression `certificate(L, A)`
+abbrev pub certificate_call : Logic → Expression → Expression
+certificate_call l e = tree.call Certificate (tree.more (tree.logic l) (tree.more e tree.none))
 
 -- the script `print certificate(L, A);`
 abbrev pub prints_certificate : ℕ → Logic → Expression → Statements
-prints_certificate line l e =
-    tree.then (tree.at line (tree.print (tree.more (tree.call Certificate (tree.more (tree.logic l) (tree.more e tree.none))) tree.none))) tree.over
+prints_certificate line l e = tree.then (tree.at line (tree.print (tree.more (certificate_call l e) tree.none))) tree.over
 
 -- carried out, it writes such bytes, of the formula that its expression comes to
 abbrev pub CertificateIsPrinted : Type 0
