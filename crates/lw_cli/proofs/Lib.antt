@@ -1,4 +1,6 @@
 pub mod FetchedBytes
 pub mod FileFindings
+pub mod PrintedCertificates
+pub mod PrintingRuns
 pub mod SoundScripts
 pub mod WritingEnded

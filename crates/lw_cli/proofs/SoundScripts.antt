@@ -1,5 +1,5 @@
 -- A command whose script never stops isn't answered with the status of a fault.
-use Rattle.std.proofs.Common.{◌≡◌, ℕ, ◌<◌, ◌≤◌, List, length, Option, Some, None, sym, ◌∙◌, subst, arith}
+use Rattle.std.proofs.Common.{◌≡◌, ℕ, List, Option, Some, None, sym, ◌∙◌, subst, arith}
 use Rattle.std.proofs.lemmas.Option.{same_Some}
 use Rattle.lw_io.specs.Files.{Files}
 use Rattle.lw_ast.specs.declared.fault.ScriptFault.TheVariants.{Syntax, Memory}
@@ -11,7 +11,6 @@ use Rattle.lw_eval.specs.Outputs.{Allows}
 use Rattle.lw_cli.specs.declared.asked.Command.{Command}
 use Rattle.lw_cli.specs.declared.asked.Command.TheVariants.{Run, Check}
 use Rattle.lw_cli.specs.Asked.{command_of}
-use Rattle.lw_cli.specs.FileLimit.{file_limit}
 use Rattle.lw_cli.specs.RunOutcomes as run
 use Rattle.lw_cli.specs.RunOutcomes.{RunOutcome}
 use Rattle.lw_cli.specs.Headline.{AsksFor, Answers}

@@ -7,4 +7,5 @@ pub mod RunOutcomes
 pub mod Commands
 pub mod Headline
 pub mod Completeness
+pub mod Laws
 pub mod Private

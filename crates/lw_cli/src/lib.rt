@@ -8,6 +8,7 @@ mod check_file;
 mod fault_line;
 mod file_limit;
 mod finding;
+mod laws;
 mod report;
 mod run_file;
 mod top_call;
@@ -15,5 +16,6 @@ mod words;
 
 pub use asked::{Command, FileName};
 pub use finding::Finding;
+pub use laws::{certificate_is_printed, printed_is_accepted};
 pub use top_call::workbench;
 pub use words::command;

@@ -1,0 +1,23 @@
+ghost use Rattle.lw_cli.specs.Laws.{CertificateIsPrinted, PrintedIsAccepted};
+
+use lw_cert::{one_answer, one_certificate};
+use lw_formula::truth_depends_on_variables;
+use lw_proof::first_break_is_exact;
+
+/// Law: of what is printed of a certificate that `certificate` gives, `check` says that it is accepted, with status 0 and
+/// nothing else, if it isn't longer than a file may be and reads as that certificate: each step is at most 4,096 deep, and
+/// the formulas' texts have no fault.
+pub fn printed_is_accepted()
+    ensures { PrintedIsAccepted }
+{
+    one_answer();
+    one_certificate();
+    truth_depends_on_variables();
+    first_break_is_exact();
+}
+
+/// Law: a script of the one statement `print certificate(L, A);` that is carried out writes the line of such a
+/// certificate of the formula that `A` comes to.
+pub fn certificate_is_printed()
+    ensures { CertificateIsPrinted }
+{}
