@@ -27,8 +27,7 @@ pub record IsPrintedCertificate (l : Logic) (a : Formula) (bytes : List ℕ) : T
   pub is_text : IsCertificateText l a evidence text
   pub line : bytes ≡ text ++ 10 ∷ []
 
--- the bytes read as the certificate that they were printed of: its formulas' texts have no fault and are theirs, and its
--- steps aren't too deep
+-- the bytes read as the certificate that they were printed of
 abbrev pub ReadsAsPrinted : (l : Logic) (a : Formula) (bytes : List ℕ) → IsPrintedCertificate l a bytes → Type 0
 ReadsAsPrinted l a bytes printed = Reads (pieces bytes) (record { logic = l; formula = a; content = printed.is_text.content })
 

@@ -5,8 +5,8 @@ use lw_formula::truth_depends_on_variables;
 use lw_proof::first_break_is_exact;
 
 /// Law: of what is printed of a certificate that `certificate` gives, `check` says that it is accepted, with status 0 and
-/// nothing else, if it isn't longer than a file may be and reads as that certificate: each step is at most 4,096 deep, and
-/// the formulas' texts have no fault.
+/// nothing else, if it isn't longer than a file may be and reads as that certificate. When a certificate's text does,
+/// `written_reads_back` of lw_cert says: a proof that is too deep has a text that is refused.
 pub fn printed_is_accepted()
     ensures { PrintedIsAccepted }
 {
