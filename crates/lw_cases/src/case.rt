@@ -7,6 +7,7 @@ use crate::interpolants::interpolant_line;
 use crate::models::{class_line, facts_line, rows_line, sheet_of, spare_line, truth_line};
 use crate::numbers::number;
 use crate::pools::{boxes_line, doubled_line, released_line, renamed_line};
+use crate::runs::left_line;
 use crate::scripts::{script_cuts_line, script_line, script_tree_line};
 use crate::setting::Setting;
 use crate::texts::{chars_line, read_line, token_line};
@@ -37,7 +38,9 @@ pub fn written(setting: &mut Setting, verb: &str, rest: &str) -> Result<Vec<u8>,
         "nnf" | "simplify" | "boxdot" => image_line(setting.alloc, verb, rest.as_bytes()),
         "goedel" => goedel_line(setting.alloc, rest.as_bytes()),
         "rows" | "facts" | "class" | "truth" | "spare" => of_model(setting, verb, rest),
-        "script" | "script-tree" | "script-cuts" => of_script(setting.alloc, &setting.text, verb),
+        "script" | "script-tree" | "script-cuts" | "left" => {
+            of_script(setting.alloc, &setting.text, verb)
+        }
         "value" | "list" | "values" | "equal" | "variables" => of_values(setting.alloc, verb, rest),
         _ => of_text(setting.alloc, &setting.text, verb, rest),
     }
@@ -58,6 +61,7 @@ fn of_script(alloc: Global, text: &[u8], verb: &str) -> Result<Vec<u8>, Unanswer
     let line = match verb {
         "script" => script_line(alloc, text)?,
         "script-tree" => script_tree_line(alloc, text)?,
+        "left" => left_line(alloc, text)?,
         _ => script_cuts_line(alloc, text)?,
     };
     Ok(line.into_bytes())
