@@ -1,3 +1,4 @@
 pub mod BinaryDigits
 pub mod SmallFamilies
 pub mod SummedCounts
+pub mod ValidFamilies
