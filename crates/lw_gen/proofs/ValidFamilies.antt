@@ -13,30 +13,31 @@ use Rattle.lw_formula.proofs.OneWorldModels.{loop, one_world-Class}
 use Rattle.lw_fix.proofs.WorldInduction.{climb}
 use Rattle.lw_gen.specs.declared.families.Family.TheVariants.{Transitive, Reflexive, Loeb}
 use Rattle.lw_gen.specs.Families.{p, boxes, family_formula}
-use Rattle.lw_gen.specs.Laws.{is_gl, TransitiveIsValid, ReflexiveIsValid, LoebIsOfGL}
+use Rattle.lw_gen.specs.Laws.{is_gl, TransitiveIsExact, ReflexiveIsExact, LoebIsExact}
+use Rattle.lw_gen.proofs.ChainModels.{not_in_K, not_in_KT, irreflexive_in_K, irreflexive_in_GL}
 
 transitive_at : (m : FiniteModel) → IsTransitive m → (i w : ℕ) → 1 ≤ i → IsTrueAt m w (family_formula Transitive i)
 transitive_at m up zero w l = absurd (omega (arith, l))
 transitive_at m up (suc i) w l = λ all v s u t. all u (up w v u s t)
 
-pub transitive_valid : TransitiveIsValid
-transitive_valid K i l h = absurd (false≢true h)
-transitive_valid KT i l h = absurd (false≢true h)
-transitive_valid S4 i l h = λ m c w b. transitive_at m c.frame.1 i w l
-transitive_valid S5 i l h = λ m c w b. transitive_at m c.frame.2 i w l
-transitive_valid GL i l h = λ m c w b. transitive_at m c.frame.0 i w l
-transitive_valid Grz i l h = λ m c w b. transitive_at m c.frame.1 i w l
+pub transitive_valid : TransitiveIsExact
+transitive_valid K i l = (λ valid. absurd (not_in_K i valid), λ h. absurd (false≢true h))
+transitive_valid KT i l = (λ valid. absurd (not_in_KT i valid), λ h. absurd (false≢true h))
+transitive_valid S4 i l = (λ valid. refl, λ h m c w b. transitive_at m c.frame.1 i w l)
+transitive_valid S5 i l = (λ valid. refl, λ h m c w b. transitive_at m c.frame.2 i w l)
+transitive_valid GL i l = (λ valid. refl, λ h m c w b. transitive_at m c.frame.0 i w l)
+transitive_valid Grz i l = (λ valid. refl, λ h m c w b. transitive_at m c.frame.1 i w l)
 
 reflexive_at : (m : FiniteModel) → IsReflexive m → (i w : ℕ) → w < m.worlds → IsTrueAt m w (family_formula Reflexive i)
 reflexive_at m own i w b = λ all. all w (own w b)
 
-pub reflexive_valid : ReflexiveIsValid
-reflexive_valid K i h = absurd (false≢true h)
-reflexive_valid KT i h = λ m c w b. reflexive_at m c.frame i w b
-reflexive_valid S4 i h = λ m c w b. reflexive_at m c.frame.0 i w b
-reflexive_valid S5 i h = λ m c w b. reflexive_at m c.frame.0 i w b
-reflexive_valid GL i h = absurd (false≢true h)
-reflexive_valid Grz i h = λ m c w b. reflexive_at m c.frame.0 i w b
+pub reflexive_valid : ReflexiveIsExact
+reflexive_valid K i = (λ valid. absurd (irreflexive_in_K i valid), λ h. absurd (false≢true h))
+reflexive_valid KT i = (λ valid. refl, λ h m c w b. reflexive_at m c.frame i w b)
+reflexive_valid S4 i = (λ valid. refl, λ h m c w b. reflexive_at m c.frame.0 i w b)
+reflexive_valid S5 i = (λ valid. refl, λ h m c w b. reflexive_at m c.frame.0 i w b)
+reflexive_valid GL i = (λ valid. absurd (irreflexive_in_GL i valid), λ h. absurd (false≢true h))
+reflexive_valid Grz i = (λ valid. refl, λ h m c w b. reflexive_at m c.frame.0 i w b)
 
 -- Löb's formula on a, by induction over the worlds
 loeb_at : (m : FiniteModel) → IsTransitive m → IsIrreflexive m → (a : Formula) (w : ℕ) → IsTrueAt m w (impl (nec (impl (nec a) a)) (nec a))
@@ -61,7 +62,7 @@ not_of logic i c other = (
   λ yes. absurd (false≢true (sym other ∙ yes)),
 )
 
-pub loeb_of_gl : LoebIsOfGL
+pub loeb_of_gl : LoebIsExact
 loeb_of_gl K i = not_of K i (record { well_formed = (one_world-Class KT).well_formed; frame = tt }) refl
 loeb_of_gl KT i = not_of KT i (one_world-Class KT) refl
 loeb_of_gl S4 i = not_of S4 i (one_world-Class S4) refl

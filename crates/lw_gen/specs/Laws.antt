@@ -33,14 +33,14 @@ is_gl S5 = false
 is_gl GL = true
 is_gl Grz = false
 
--- from 1 on each formula of the family is valid in the logics of transitive frames
-abbrev pub TransitiveIsValid : Type 0
-TransitiveIsValid = (logic : Logic) (i : ℕ) → 1 ≤ i → is_transitive logic ≡ true → Valid logic (family_formula Transitive i)
+-- from 1 on each formula of the family is valid in the logics of transitive frames, and in no other of the six
+abbrev pub TransitiveIsExact : Type 0
+TransitiveIsExact = (logic : Logic) (i : ℕ) → 1 ≤ i → Valid logic (family_formula Transitive i) ↔ (is_transitive logic ≡ true)
 
--- each formula of the family is valid in the logics of reflexive frames
-abbrev pub ReflexiveIsValid : Type 0
-ReflexiveIsValid = (logic : Logic) (i : ℕ) → is_reflexive logic ≡ true → Valid logic (family_formula Reflexive i)
+-- each formula of the family is valid in the logics of reflexive frames, and in no other of the six
+abbrev pub ReflexiveIsExact : Type 0
+ReflexiveIsExact = (logic : Logic) (i : ℕ) → Valid logic (family_formula Reflexive i) ↔ (is_reflexive logic ≡ true)
 
--- each formula of the family is valid in GL and in no other of the six logics
-abbrev pub LoebIsOfGL : Type 0
-LoebIsOfGL = (logic : Logic) (i : ℕ) → Valid logic (family_formula Loeb i) ↔ (is_gl logic ≡ true)
+-- each formula of the family is valid in GL, and in no other of the six
+abbrev pub LoebIsExact : Type 0
+LoebIsExact = (logic : Logic) (i : ℕ) → Valid logic (family_formula Loeb i) ↔ (is_gl logic ≡ true)

@@ -10,5 +10,5 @@ mod questions;
 pub use counts::Summary;
 pub use families::Family;
 pub use formulas::family;
-pub use laws::{loeb_is_of_gl, reflexive_is_valid, transitive_is_valid};
+pub use laws::{loeb_is_exact, reflexive_is_exact, transitive_is_exact};
 pub use questions::summary;
