@@ -1,3 +1,5 @@
 pub mod BinaryDigits
 pub mod SmallFamilies
 pub mod SummedCounts
+pub mod ChainModels
+pub mod ValidFamilies

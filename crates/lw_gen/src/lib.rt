@@ -4,9 +4,11 @@
 mod counts;
 mod families;
 mod formulas;
+mod laws;
 mod questions;
 
 pub use counts::Summary;
 pub use families::Family;
 pub use formulas::family;
+pub use laws::{loeb_is_exact, reflexive_is_exact, transitive_is_exact};
 pub use questions::summary;
