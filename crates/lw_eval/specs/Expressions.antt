@@ -16,6 +16,7 @@ abbrev pub Variables : Type 0
 Variables = List (List ℕ × Val Formula)
 
 abbrev mutual
+  -- what the expression comes to
   pub Eval : Variables → Expression → Evaluation (Val Formula) → Type 0
   Eval env (tree.number n) = Is (Got (number n))
   Eval env (tree.text bytes) = Is (Got (text bytes))

@@ -30,6 +30,7 @@ prefixed_by Not a = neg a
 prefixed_by Nec a = nec a
 prefixed_by Poss a = poss a
 
+-- the value of such a sign before a value: a formula with the sign
 abbrev pub Prefixes : Prefix → Val Formula → Evaluation (Val Formula) → Type 0
 Prefixes sign v = Given (formula_in v) (λ a. Is (Got (formula (prefixed_by sign a))))
 
@@ -47,6 +48,7 @@ calculated Plus m n = in_range (m + n)
 calculated Minus m n = if nat_le n m then in_range (m - n) else Fails Range
 calculated Times m n = in_range (m * n)
 
+-- the value of such a sign between two values: the number, if both are numbers
 abbrev pub Calculates : Op → Val Formula → Val Formula → Evaluation (Val Formula) → Type 0
 Calculates s v w = Given (numbers_in v w) (λ n. Is (calculated s n.0 n.1))
 
@@ -74,11 +76,12 @@ Truth test = Bind test (λ b. Is (Got (truth b)))
 abbrev pub Denies : Bool → Evaluation (Val Formula) → Type 0
 Denies b = Is (Got (truth (not b)))
 
--- `and` and `or`: the right side is evaluated only where the left one doesn't decide
+-- `and`: where the left side is no, the right one isn't evaluated
 abbrev pub Both : Bool → (Evaluation (Val Formula) → Type 0) → Evaluation (Val Formula) → Type 0
 Both true right = Truth (Tests right)
 Both false right = Is (Got (truth false))
 
+-- `or`: where the left side is yes, the right one isn't evaluated
 abbrev pub Either : Bool → (Evaluation (Val Formula) → Type 0) → Evaluation (Val Formula) → Type 0
 Either true right = Is (Got (truth true))
 Either false right = Truth (Tests right)

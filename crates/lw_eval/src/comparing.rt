@@ -22,7 +22,8 @@ pub fn compared(
 ) -> Result<Value, EvalFault>
     requires left { IsLiveIn pool.now operands.now.0 }
     requires right { IsLiveIn pool.now operands.now.1 }
-    ensures value { Gives (shown_in pool.now) (Compares relation (shown_in pool.now operands.now.0) (shown_in pool.now operands.now.1)) result }
+    ensures value { Gives (shown_in pool.now)
+        (Compares relation (shown_in pool.now operands.now.0) (shown_in pool.now operands.now.1)) result }
     ensures live { IfOk result (IsLiveIn pool.now) }
 {
     match relation {

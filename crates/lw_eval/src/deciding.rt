@@ -120,7 +120,8 @@ fn is_yes(answer: &Answer) -> bool
 
 // What the answer shows.
 fn body_of(answer: Answer) -> Body
-    ensures shows { (logic : Logic) (ts : List Formula) (a : Formula) → IsAnswerTo logic ts a answer → IsShown logic ts a (evidence_of result) }
+    ensures shows { (logic : Logic) (ts : List Formula) (a : Formula) →
+        IsAnswerTo logic ts a answer → IsShown logic ts a (evidence_of result) }
 {
     match answer {
         Answer::Yes(proof) => Body::Proved(proof),

@@ -81,8 +81,8 @@ pub fn eval_pair(
 ) -> Result<(Value, Value), EvalFault>
     requires live { AreVariablesLive pool.old env.now }
     ensures value { Gives (λ v. (shown_in pool.new v.0, shown_in pool.new v.1))
-        (Pair (Eval (variables_seen pool.old env.now) (expression left.now)) (Eval (variables_seen pool.old env.now) (expression right.now)))
-        result }
+        (Pair (Eval (variables_seen pool.old env.now) (expression left.now))
+        (Eval (variables_seen pool.old env.now) (expression right.now))) result }
     ensures live { IfOk result (λ v. IsLiveIn pool.new v.0 × IsLiveIn pool.new v.1) }
     ensures grows { Grows pool.old pool.new }
 {
@@ -133,7 +133,8 @@ fn eval_series(
     env: &Env,
 ) -> Result<Value, EvalFault>
     requires live { AreVariablesLive pool.old env.now }
-    ensures value { Gives (shown_in pool.new) (Series (variables_seen pool.old env.now) (expression first.now) (operands terms.now)) result }
+    ensures value { Gives (shown_in pool.new)
+        (Series (variables_seen pool.old env.now) (expression first.now) (operands terms.now)) result }
     ensures live { IfOk result (IsLiveIn pool.new) }
     ensures grows { Grows pool.old pool.new }
 {

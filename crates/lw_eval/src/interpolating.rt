@@ -52,8 +52,8 @@ fn interpolated(
     requires left { IsLive pool.old left }
     requires right { IsLive pool.old right }
     ensures value { Gives (shown_in pool.new)
-        (Supported logic (Decided (impl (tree_at pool.old left) (tree_at pool.old right)) (Interpolates logic (tree_at pool.old left) (tree_at pool.old right))))
-        result }
+        (Supported logic (Decided (impl (tree_at pool.old left) (tree_at pool.old right))
+        (Interpolates logic (tree_at pool.old left) (tree_at pool.old right)))) result }
     ensures live { IfOk result (IsLiveIn pool.new) }
     ensures grows { Grows pool.old pool.new }
 {

@@ -62,7 +62,8 @@ fn run_block<K: Sink>(
     requires evidence { HaveEvidence (variables_seen pool.old env.old) }
     requires steps { steps.old ≤ step_limit }
     ensures run { Carries (Run (statements block.now))
-        (variables_seen pool.old env.old) steps.old (variables_seen pool.new env.new) steps.new (K.written sink.old) (K.written sink.new) result }
+        (variables_seen pool.old env.old) steps.old (variables_seen pool.new env.new) steps.new
+        (K.written sink.old) (K.written sink.new) result }
     ensures live { AreVariablesLive pool.new env.new }
     ensures grows { Grows pool.old pool.new }
     ensures steps { steps.new ≤ step_limit }
@@ -93,7 +94,8 @@ fn run_stmt<K: Sink>(
     requires evidence { HaveEvidence (variables_seen pool.old env.old) }
     requires steps { steps.old ≤ step_limit }
     ensures run { Carries (DoesStep (statement stmt.now))
-        (variables_seen pool.old env.old) steps.old (variables_seen pool.new env.new) steps.new (K.written sink.old) (K.written sink.new) result }
+        (variables_seen pool.old env.old) steps.old (variables_seen pool.new env.new) steps.new
+        (K.written sink.old) (K.written sink.new) result }
     ensures live { AreVariablesLive pool.new env.new }
     ensures grows { Grows pool.old pool.new }
     ensures steps { steps.new ≤ step_limit }
@@ -122,7 +124,8 @@ fn do_stmt<K: Sink>(
     requires evidence { HaveEvidence (variables_seen pool.old env.old) }
     requires steps { steps.old ≤ step_limit }
     ensures run { Carries (OrCut (Does line (kind stmt.now)))
-        (variables_seen pool.old env.old) steps.old (variables_seen pool.new env.new) steps.new (K.written sink.old) (K.written sink.new) result }
+        (variables_seen pool.old env.old) steps.old (variables_seen pool.new env.new) steps.new
+        (K.written sink.old) (K.written sink.new) result }
     ensures live { AreVariablesLive pool.new env.new }
     ensures grows { Grows pool.old pool.new }
     ensures steps { steps.new ≤ step_limit }
@@ -163,7 +166,8 @@ fn choose<K: Sink>(
     requires evidence { HaveEvidence (variables_seen pool.old env.old) }
     requires steps { steps.old ≤ step_limit }
     ensures run { Carries (OrCut (Does line (tree.choose (expression test.now) (statements first.now) (statements second.now))))
-        (variables_seen pool.old env.old) steps.old (variables_seen pool.new env.new) steps.new (K.written sink.old) (K.written sink.new) result }
+        (variables_seen pool.old env.old) steps.old (variables_seen pool.new env.new) steps.new
+        (K.written sink.old) (K.written sink.new) result }
     ensures live { AreVariablesLive pool.new env.new }
     ensures grows { Grows pool.old pool.new }
     ensures steps { steps.new ≤ step_limit }
@@ -196,7 +200,8 @@ fn count_up<K: Sink>(
     requires evidence { HaveEvidence (variables_seen pool.old env.old) }
     requires steps { steps.old ≤ step_limit }
     ensures run { Carries (OrCut (Does line (tree.count_up name.now (expression from.now) (expression to.now) (statements body.now))))
-        (variables_seen pool.old env.old) steps.old (variables_seen pool.new env.new) steps.new (K.written sink.old) (K.written sink.new) result }
+        (variables_seen pool.old env.old) steps.old (variables_seen pool.new env.new) steps.new
+        (K.written sink.old) (K.written sink.new) result }
     ensures live { AreVariablesLive pool.new env.new }
     ensures grows { Grows pool.old pool.new }
     ensures steps { steps.new ≤ step_limit }
@@ -229,7 +234,8 @@ fn turns_to<K: Sink>(
     requires evidence { HaveEvidence (variables_seen pool.old env.old) }
     requires steps { steps.old ≤ step_limit }
     ensures run { Carries (Turns line name.now (Run (statements body.now)) (numbers_from from (to + 1 - from)))
-        (variables_seen pool.old env.old) steps.old (variables_seen pool.new env.new) steps.new (K.written sink.old) (K.written sink.new) result }
+        (variables_seen pool.old env.old) steps.old (variables_seen pool.new env.new) steps.new
+        (K.written sink.old) (K.written sink.new) result }
     ensures live { AreVariablesLive pool.new env.new }
     ensures grows { Grows pool.old pool.new }
     ensures steps { steps.new ≤ step_limit }
@@ -286,7 +292,8 @@ fn each<K: Sink>(
     requires evidence { HaveEvidence (variables_seen pool.old env.old) }
     requires steps { steps.old ≤ step_limit }
     ensures run { Carries (OrCut (Does line (tree.each name.now (expression list.now) (statements body.now))))
-        (variables_seen pool.old env.old) steps.old (variables_seen pool.new env.new) steps.new (K.written sink.old) (K.written sink.new) result }
+        (variables_seen pool.old env.old) steps.old (variables_seen pool.new env.new) steps.new
+        (K.written sink.old) (K.written sink.new) result }
     ensures live { AreVariablesLive pool.new env.new }
     ensures grows { Grows pool.old pool.new }
     ensures steps { steps.new ≤ step_limit }
@@ -319,7 +326,8 @@ fn turns_of<K: Sink>(
     requires items_live { AreItemsLive pool.old (vals items.now) }
     requires items_evidence { HaveItemsEvidence (seen_all pool.old (vals items.now)) }
     ensures run { Carries (Turns line name.now (Run (statements body.now)) (seen_all pool.old (vals items.now)))
-        (variables_seen pool.old env.old) steps.old (variables_seen pool.new env.new) steps.new (K.written sink.old) (K.written sink.new) result }
+        (variables_seen pool.old env.old) steps.old (variables_seen pool.new env.new) steps.new
+        (K.written sink.old) (K.written sink.new) result }
     ensures live { AreVariablesLive pool.new env.new }
     ensures grows { Grows pool.old pool.new }
     ensures steps { steps.new ≤ step_limit }
@@ -355,7 +363,8 @@ fn repeat<K: Sink>(
     requires evidence { HaveEvidence (variables_seen pool.old env.old) }
     requires steps { steps.old ≤ step_limit }
     ensures run { Carries (Does line (tree.repeat (expression test.now) (statements body.now)))
-        (variables_seen pool.old env.old) steps.old (variables_seen pool.new env.new) steps.new (K.written sink.old) (K.written sink.new) result }
+        (variables_seen pool.old env.old) steps.old (variables_seen pool.new env.new) steps.new
+        (K.written sink.old) (K.written sink.new) result }
     ensures live { AreVariablesLive pool.new env.new }
     ensures grows { Grows pool.old pool.new }
     ensures steps { steps.new ≤ step_limit }
@@ -399,7 +408,8 @@ fn turn<K: Sink>(
     requires value_live { IsLiveIn pool.old value }
     requires value_evidence { HasEvidence (shown_in pool.old value) }
     ensures run { Carries (Step line (λ env. Run (statements body.now) (put env name.now (shown_in pool.old value))))
-        (variables_seen pool.old env.old) steps.old (variables_seen pool.new env.new) steps.new (K.written sink.old) (K.written sink.new) result }
+        (variables_seen pool.old env.old) steps.old (variables_seen pool.new env.new) steps.new
+        (K.written sink.old) (K.written sink.new) result }
     ensures live { AreVariablesLive pool.new env.new }
     ensures grows { Grows pool.old pool.new }
     ensures steps { steps.new ≤ step_limit }

@@ -101,7 +101,8 @@ fn write_work<'a>(
     left: &mut Vec<Work<'a>>,
 ) -> Result<(), AllocError>
     requires { CanPrintPart pool.now (part_of work) }
-    ensures { OnOk result (Writes pool.now (part_of work.entry) out.old.items out.new.items (parts_of left.old.items) (parts_of left.new.items)) }
+    ensures { OnOk result (Writes pool.now (part_of work.entry)
+        out.old.items out.new.items (parts_of left.old.items) (parts_of left.new.items)) }
 {
     match work {
         Work::Whole(value) => write_whole(alloc, pool, value, out, left),
@@ -118,7 +119,8 @@ fn write_whole<'a>(
     left: &mut Vec<Work<'a>>,
 ) -> Result<(), AllocError>
     requires { CanPrint pool.now (value_of value.now) }
-    ensures { OnOk result (Writes pool.now (whole (value_of value.now)) out.old.items out.new.items (parts_of left.old.items) (parts_of left.new.items)) }
+    ensures { OnOk result (Writes pool.now (whole (value_of value.now))
+        out.old.items out.new.items (parts_of left.old.items) (parts_of left.new.items)) }
 {
     match value {
         Value::Formula(id) => write_formula(alloc, pool, *id, out),
@@ -139,7 +141,8 @@ fn open<'a>(
     left: &mut Vec<Work<'a>>,
 ) -> Result<(), AllocError>
     ensures { OnOk result ((ts : List Formula) → CanPrintAll ts (values_of values.now)
-        → Writes ts (whole (items (values_of values.now))) out.old.items out.new.items (parts_of left.old.items) (parts_of left.new.items)) }
+        → Writes ts (whole (items (values_of values.now)))
+        out.old.items out.new.items (parts_of left.old.items) (parts_of left.new.items)) }
 {
     out.push(b'[')?;
     match values.split_first() {
@@ -155,7 +158,8 @@ fn go_on<'a>(
     left: &mut Vec<Work<'a>>,
 ) -> Result<(), AllocError>
     ensures { OnOk result ((ts : List Formula) → CanPrintAll ts (values_of values.now)
-        → Writes ts (rest (values_of values.now)) out.old.items out.new.items (parts_of left.old.items) (parts_of left.new.items)) }
+        → Writes ts (rest (values_of values.now))
+        out.old.items out.new.items (parts_of left.old.items) (parts_of left.new.items)) }
 {
     match values.split_first() {
         Some((first, others)) => {
@@ -172,7 +176,8 @@ fn push_parts<'a>(
     others: &'a [Value],
     left: &mut Vec<Work<'a>>,
 ) -> Result<(), AllocError>
-    ensures { OnOk result (parts_of left.new.items ≡ parts_of left.old.items ++ rest (values_of others.now) ∷ whole (value_of first.now) ∷ []) }
+    ensures { OnOk result (parts_of left.new.items ≡
+        parts_of left.old.items ++ rest (values_of others.now) ∷ whole (value_of first.now) ∷ []) }
 {
     left.push(Work::Rest(others))?;
     left.push(Work::Whole(first))?;

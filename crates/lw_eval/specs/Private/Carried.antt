@@ -16,7 +16,8 @@ use Rattle.lw_eval.specs.Runs.{step_limit, Act, End, Cut}
 use Rattle.lw_eval.specs.Ran.{IsEnd}
 
 -- a run of a part from these steps, as an answer tells it; only where all was carried out the steps are told
-pub record Carries (act : Act) (before : Variables) (k : ℕ) (after : Variables) (steps : ℕ) (written now : Option (List ℕ)) (result : Result ⊤ RunFault) : Type 0 where
+pub record Carries (act : Act) (before : Variables) (k : ℕ) (after : Variables) (steps : ℕ)
+    (written now : Option (List ℕ)) (result : Result ⊤ RunFault) : Type 0 where
   pub taken : ℕ
   pub out : List ℕ
   pub end : End
@@ -31,10 +32,12 @@ pub data OrCut (act : Act) : Variables → ℕ → Variables → ℕ → List �
   does : {env env2 : Variables} {k k2 : ℕ} {out : List ℕ} {end : End} → act env k env2 k2 out end → OrCut act env k env2 k2 out end
 
 -- so much was done of the whole that whatever the rest does from here on makes it up
-pub record Leads (whole rest : Act) (before : Variables) (k : ℕ) (here : Variables) (steps : ℕ) (written now : Option (List ℕ)) : Type 0 where
+pub record Leads (whole rest : Act) (before : Variables) (k : ℕ) (here : Variables) (steps : ℕ)
+    (written now : Option (List ℕ)) : Type 0 where
   pub done : List ℕ
   pub adds : Adds written now done
-  pub leads : (after : Variables) (k2 : ℕ) (out : List ℕ) (end : End) → rest here steps after k2 out end → whole before k after k2 (done ++ out) end
+  pub leads : (after : Variables) (k2 : ℕ) (out : List ℕ) (end : End) →
+      rest here steps after k2 out end → whole before k after k2 (done ++ out) end
 
 -- an evaluation may come to what was answered, as it is seen; its trouble comes at the line
 abbrev pub GivesAt : {X A : Type 0} → ℕ → (X → A) → (Evaluation A → Type 0) → Result X RunFault → Type 0
