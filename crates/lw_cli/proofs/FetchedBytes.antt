@@ -1,9 +1,9 @@
 -- What a command may write over the first bytes that a fetch gives, it may write over the whole file.
 use Rattle.std.proofs.Common.{◌≡◌, ℕ, ◌+◌, ◌<◌, ◌≤◌, List, ◌++◌, length, take, Option, Some, None, ◌⊎◌, inl, inr, sym, ◌∙◌, subst, ap, arith}
 use Rattle.std.proofs.lemmas.List.{take_all, length-take}
-use Rattle.lw_io.specs.Files.{Files, IsHeldPart}
+use Rattle.lw_io.specs.Files.{Files}
 use Rattle.lw_cli.specs.declared.asked.Command.{Command}
-use Rattle.lw_cli.specs.declared.asked.Command.TheVariants.{Run, Check}
+use Rattle.lw_cli.specs.declared.asked.Command.TheVariants.{Run, Check, Gen}
 use Rattle.lw_cli.specs.declared.finding.Finding.{Finding}
 use Rattle.lw_cli.specs.declared.finding.Finding.TheVariants.{ModelText, ProofText}
 use Rattle.lw_cli.specs.FileLimit.{file_limit}
@@ -13,8 +13,8 @@ use Rattle.lw_cli.specs.Checked.{IsFinding}
 use Rattle.lw_cli.specs.RunOutcomes as run
 use Rattle.lw_cli.specs.RunOutcomes.{RunOutcome, RunBegins}
 use Rattle.lw_cli.specs.Commands.{Outcome, IsBegun}
-use Rattle.lw_cli.specs.Asked.{file_of}
-use Rattle.lw_cli.specs.Headline.{Answers, AnswersPart, AnswersBegun, IsCutShort}
+use Rattle.lw_cli.specs.Headline.{IsRead, Answers, AnswersPart, AnswersBegun, IsCutShort}
+use Rattle.lw_cli.specs.Private.AskedWords.{IsReadPart}
 use Rattle.lw_cli.specs.Private.ReportSteps.{Wrote, WrotePart, WroteBegun, IsShort}
 
 -- one byte more than n of a list: where that is at most n long, it is all of the list
@@ -52,51 +52,69 @@ outcome_of_whole (Check file) part bytes out status is outcome = record {
   line = outcome.line;
   ending = outcome.ending;
 }
+outcome_of_whole (Gen n) part bytes out status is outcome = outcome
 
 begun_of_whole : (command : Command) (part bytes out : List ℕ) → part ≡ take (file_limit + 1) bytes → IsBegun command part out → IsBegun command bytes out
 begun_of_whole (Run file) part bytes out is begun = subst (λ xs. RunBegins xs out) (all_of file_limit part bytes is begun.short) begun
 begun_of_whole (Check file) part bytes out is begun = absurd begun
+begun_of_whole (Gen n) part bytes out is begun = absurd begun
 
--- what was written over the bytes that the fetch gave is what may be written over the file
-pub answers_whole : (command : Command) (holds : Option Files) (part : List ℕ) (before now : Option (List ℕ)) (status : ℕ) → IsHeldPart holds (file_of command) (file_limit + 1) part
+-- what the command reads, over which it may write all that it may write over the first part of it that the fetch gave
+record ReadWhole (command : Command) (holds : Option Files) (part : List ℕ) : Type 0 where
+  bytes : List ℕ
+  read : IsRead holds command bytes
+  outcome : (out : List ℕ) (status : ℕ) → Outcome command part out status → Outcome command bytes out status
+  begun : (out : List ℕ) → IsBegun command part out → IsBegun command bytes out
+
+-- it is no more than that part, or the file that it is a part of
+alone : (command : Command) (holds : Option Files) (part : List ℕ) → IsRead holds command part → ReadWhole command holds part
+alone command holds part read = record { bytes = part; read = read; outcome = λ out status outcome. outcome; begun = λ out begun. begun }
+
+taken_of : (command : Command) (holds : Option Files) (part bytes : List ℕ) → IsRead holds command bytes → part ≡ take (file_limit + 1) bytes → ReadWhole command holds part
+taken_of command holds part bytes read taken = record {
+  bytes = bytes;
+  read = read;
+  outcome = λ out status outcome. outcome_of_whole command part bytes out status taken outcome;
+  begun = λ out begun. begun_of_whole command part bytes out taken begun;
+}
+
+read_whole : (command : Command) (holds : Option Files) (part : List ℕ) → IsReadPart holds command (file_limit + 1) part → ReadWhole command holds part
+read_whole (Run file) None part held = alone (Run file) None part tt
+read_whole (Run file) (Some files) part (bytes, at, taken) = taken_of (Run file) (Some files) part bytes at taken
+read_whole (Check file) None part held = alone (Check file) None part tt
+read_whole (Check file) (Some files) part (bytes, at, taken) = taken_of (Check file) (Some files) part bytes at taken
+read_whole (Gen n) holds part none = alone (Gen n) holds part none
+
+-- so what was written over that part is what may be written over what is read
+pub answers_whole : (command : Command) (holds : Option Files) (part : List ℕ) (before now : Option (List ℕ)) (status : ℕ) → IsReadPart holds command (file_limit + 1) part
     → Wrote (Outcome command part) before now status → Answers command holds before now status
-answers_whole command None part before now status held wrote =
-    record { out = wrote.out; output = record { bytes = part; held = tt; outcome = wrote.allowed }; written = wrote.written }
-answers_whole command (Some files) part before now status (bytes, at, taken) wrote = record {
-  out = wrote.out;
-  output = record { bytes = bytes; held = at; outcome = outcome_of_whole command part bytes wrote.out status taken wrote.allowed };
-  written = wrote.written;
-}
+answers_whole command holds part before now status held wrote =
+    let whole = read_whole command holds part held in
+    record { out = wrote.out; output = record { bytes = whole.bytes; read = whole.read; outcome = whole.outcome wrote.out status wrote.allowed }; written = wrote.written }
 
-part_whole : (command : Command) (holds : Option Files) (part : List ℕ) (before now : Option (List ℕ)) → IsHeldPart holds (file_of command) (file_limit + 1) part
+part_whole : (command : Command) (holds : Option Files) (part : List ℕ) (before now : Option (List ℕ)) → IsReadPart holds command (file_limit + 1) part
     → WrotePart (Outcome command part) before now → AnswersPart command holds before now
-part_whole command None part before now held wrote =
-    record { out = wrote.out; status = wrote.status; output = record { bytes = part; held = tt; outcome = wrote.allowed }; written = wrote.written }
-part_whole command (Some files) part before now (bytes, at, taken) wrote = record {
-  out = wrote.out;
-  status = wrote.status;
-  output = record { bytes = bytes; held = at; outcome = outcome_of_whole command part bytes wrote.out wrote.status taken wrote.allowed };
-  written = wrote.written;
-}
+part_whole command holds part before now held wrote =
+    let whole = read_whole command holds part held in
+    record {
+      out = wrote.out;
+      status = wrote.status;
+      output = record { bytes = whole.bytes; read = whole.read; outcome = whole.outcome wrote.out wrote.status wrote.allowed };
+      written = wrote.written;
+    }
 
-begun_whole : (command : Command) (holds : Option Files) (part : List ℕ) (before now : Option (List ℕ)) → IsHeldPart holds (file_of command) (file_limit + 1) part
+begun_whole : (command : Command) (holds : Option Files) (part : List ℕ) (before now : Option (List ℕ)) → IsReadPart holds command (file_limit + 1) part
     → WroteBegun (IsBegun command part) before now → AnswersBegun command holds before now
-begun_whole command None part before now held wrote = record { bytes = part; held = tt; out = wrote.out; begun = wrote.is_begun; written = wrote.written }
-begun_whole command (Some files) part before now (bytes, at, taken) wrote =
-    record { bytes = bytes; held = at; out = wrote.out; begun = begun_of_whole command part bytes wrote.out taken wrote.is_begun; written = wrote.written }
+begun_whole command holds part before now held wrote =
+    let whole = read_whole command holds part held in
+    record { bytes = whole.bytes; read = whole.read; out = wrote.out; begun = whole.begun wrote.out wrote.is_begun; written = wrote.written }
 
-pub short_whole : (command : Command) (holds : Option Files) (part : List ℕ) (before now : Option (List ℕ)) → IsHeldPart holds (file_of command) (file_limit + 1) part
+pub short_whole : (command : Command) (holds : Option Files) (part : List ℕ) (before now : Option (List ℕ)) → IsReadPart holds command (file_limit + 1) part
     → IsShort (Outcome command part) (IsBegun command part) before now → IsCutShort command holds before now
 short_whole command holds part before now held (inl wrote) = inl (part_whole command holds part before now held wrote)
 short_whole command holds part before now held (inr wrote) = inr (begun_whole command holds part before now held wrote)
 
-pub nothing_or_short : (command : Command) (holds : Option Files) (part : List ℕ) (before now : Option (List ℕ)) → IsHeldPart holds (file_of command) (file_limit + 1) part
+pub nothing_or_short : (command : Command) (holds : Option Files) (part : List ℕ) (before now : Option (List ℕ)) → IsReadPart holds command (file_limit + 1) part
     → (now ≡ before) ⊎ IsShort (Outcome command part) (IsBegun command part) before now → (now ≡ before) ⊎ IsCutShort command holds before now
 nothing_or_short command holds part before now held (inl same) = inl same
 nothing_or_short command holds part before now held (inr short) = inr (short_whole command holds part before now held short)
-
--- the same under other names
-pub held_as : (holds : Option Files) (given file name read part : List ℕ) → given ≡ file → file ≡ name → part ≡ read → IsHeldPart holds given (file_limit + 1) read
-    → IsHeldPart holds name (file_limit + 1) part
-held_as holds given file name read part text is same held =
-    subst (λ x. IsHeldPart holds x (file_limit + 1) part) (text ∙ is) (subst (λ xs. IsHeldPart holds given (file_limit + 1) xs) (sym same) held)

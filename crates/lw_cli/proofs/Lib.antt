@@ -1,3 +1,4 @@
+pub mod AskedCommands
 pub mod FetchedBytes
 pub mod FileFindings
 pub mod PrintedCertificates

@@ -9,16 +9,12 @@ use Rattle.lw_ast.specs.ScriptFaults.{HasOneScript, HasOneScriptAnswer}
 use Rattle.lw_eval.specs.Runs.{Stopped}
 use Rattle.lw_eval.specs.Outputs.{Allows}
 use Rattle.lw_cli.specs.declared.asked.Command.{Command}
-use Rattle.lw_cli.specs.declared.asked.Command.TheVariants.{Run, Check}
-use Rattle.lw_cli.specs.Asked.{command_of}
+use Rattle.lw_cli.specs.declared.asked.Command.TheVariants.{Run, Check, Gen}
+use Rattle.lw_cli.proofs.AskedCommands.{one_command}
 use Rattle.lw_cli.specs.RunOutcomes as run
 use Rattle.lw_cli.specs.RunOutcomes.{RunOutcome}
 use Rattle.lw_cli.specs.Headline.{AsksFor, Answers}
 use Rattle.lw_cli.specs.Completeness.{IsSoundScript, RunsSoundScript}
-
--- words are at most one command
-one_command : (words : List (List ℕ)) (command other : Command) → command_of words ≡ Some command → command_of words ≡ Some other → command ≡ other
-one_command words command other is are = same_Some command other (sym is ∙ are)
 
 syntax_or_memory : (line column : ℕ) (why : SyntaxWhy) → Syntax line column why ≡ Memory → ⊥
 syntax_or_memory line column why is = absurd (cc)
@@ -36,8 +32,9 @@ sound_is_answered : ((ts : List ScriptLexeme) → HasOneScript ts) → ((text : 
 sound_is_answered one_script one_answer (Run file) None before now status runs answers one = absurd runs
 sound_is_answered one_script one_answer (Run file) (Some files) before now status runs answers one =
     sound_is_done one_script one_answer runs.0 answers.out status runs.2
-    (subst (λ bytes. RunOutcome bytes answers.out status) (same_Some _ _ (sym answers.output.held ∙ runs.1)) answers.output.outcome) one
+    (subst (λ bytes. RunOutcome bytes answers.out status) (same_Some _ _ (sym answers.output.read ∙ runs.1)) answers.output.outcome) one
 sound_is_answered one_script one_answer (Check file) holds before now status runs answers one = absurd runs
+sound_is_answered one_script one_answer (Gen n) holds before now status runs answers one = absurd runs
 
 -- so a command that runs it isn't answered with 1
 pub sound_is_carried : ((ts : List ScriptLexeme) → HasOneScript ts) → ((text : List ℕ) → HasOneScriptAnswer text) → (words : List (List ℕ)) (holds : Option Files) (before now : Option (List ℕ)) (status : ℕ) → AsksFor words (RunsSoundScript holds)

@@ -1,19 +1,19 @@
 -- The shapes of the command line.
-use Rattle.std.specs.Prelude.{ℕ, List, [], ◌∷◌, Option, Some, None, if◌then◌else◌, codes}
-use Rattle.std.specs.Str.{bytes_eq}
+use Rattle.std.specs.Prelude.{◌≡◌, ℕ, ◌≤◌, List, [], ◌∷◌, codes}
+use Rattle.std.specs.Fmt.{decimal}
 use Rattle.lw_cli.specs.declared.asked.Command.{Command}
-use Rattle.lw_cli.specs.declared.asked.Command.TheVariants.{Run, Check}
+use Rattle.lw_cli.specs.declared.asked.Command.TheVariants.{Run, Check, Gen}
 
--- the command of the words: `run FILE` or `check FILE`, and no other words are one
-abbrev pub command_of : List (List ℕ) → Option Command
-command_of [] = None
-command_of (verb ∷ []) = None
-command_of (verb ∷ file ∷ []) =
-    if bytes_eq verb (codes "run") then Some (Run file) else
-    if bytes_eq verb (codes "check") then Some (Check file) else None
-command_of (verb ∷ file ∷ more ∷ words) = None
+-- the numbers that `gen` takes
+abbrev pub IsInReach : ℕ → Type 0
+IsInReach n = (1 ≤ n) × (n ≤ 100)
 
--- the name of the command's file
-abbrev pub file_of : Command → List ℕ
-file_of (Run file) = file
-file_of (Check file) = file
+-- the words ask for the command: `run FILE`, `check FILE`, or `gen N`, with the decimal digits of a number from 1 to 100
+abbrev pub Ask : List (List ℕ) → Command → Type 0
+Ask words (Run file) = words ≡ codes "run" ∷ file ∷ []
+Ask words (Check file) = words ≡ codes "check" ∷ file ∷ []
+Ask words (Gen n) = IsInReach n × (words ≡ codes "gen" ∷ decimal n ∷ [])
+
+-- the words are no command
+abbrev pub AskNothing : List (List ℕ) → Type 0
+AskNothing words = (command : Command) → ¬ Ask words command

@@ -1,19 +1,14 @@
--- Where a command must be carried out, and where its script must be.
-use Rattle.std.specs.Prelude.{◌≡◌, ℕ, ◌≤◌, Bool, List, length, Option, Some, None}
-use Rattle.lw_io.specs.Files.{Files, IsSure, bytes_at}
+-- Where nothing may be said to be wrong with a command's file.
+use Rattle.std.specs.Prelude.{◌≡◌, ℕ, ◌≤◌, List, length, Option, Some, None}
+use Rattle.lw_io.specs.Files.{Files, bytes_at}
 use Rattle.lw_ast.specs.Trees.{Statements}
 use Rattle.lw_ast.specs.ScriptFaults.{ReadsAsScript}
 use Rattle.lw_eval.specs.declared.trouble.Trouble.{Trouble}
 use Rattle.lw_eval.specs.Runs.{Stopped}
 use Rattle.lw_eval.specs.Outputs.{Allows}
 use Rattle.lw_cli.specs.declared.asked.Command.{Command}
-use Rattle.lw_cli.specs.declared.asked.Command.TheVariants.{Run, Check}
-use Rattle.lw_cli.specs.Asked.{file_of}
+use Rattle.lw_cli.specs.declared.asked.Command.TheVariants.{Run, Check, Gen}
 use Rattle.lw_cli.specs.FileLimit.{file_limit}
-
--- the store is sure of the command's file
-abbrev pub IsSureOf : Bool → Option Files → Command → Type 0
-IsSureOf sure holds command = IsSure sure holds (file_of command)
 
 -- no run that the script allows ends in a trouble
 abbrev pub NeverStops : Statements → Type 0
@@ -35,3 +30,4 @@ HoldsSoundScript (Some files) name = (bytes : List ℕ) × (bytes_at files name 
 abbrev pub RunsSoundScript : Option Files → Command → Type 0
 RunsSoundScript holds (Run file) = HoldsSoundScript holds file
 RunsSoundScript holds (Check file) = ⊥
+RunsSoundScript holds (Gen n) = ⊥

@@ -4,6 +4,7 @@ pub mod FaultLines
 pub mod FindingLines
 pub mod Checked
 pub mod RunOutcomes
+pub mod GenOutcomes
 pub mod Commands
 pub mod Headline
 pub mod Completeness

@@ -1,5 +1,4 @@
 ghost use Rattle.std.specs.Prelude.{◌≡◌, ℕ, List, IfOk, string_bytes};
-ghost use Rattle.lw_cli.specs.Asked.{file_of};
 
 use std::alloc::{AllocError, Global};
 use std::marker::Model;
@@ -43,15 +42,6 @@ pub enum Command {
     Run(FileName),
     /// To say whether the certificate of the file shows what it claims.
     Check(FileName),
-}
-
-impl Command {
-    /// The name of its file.
-    pub fn file(&self) -> &FileName
-        ensures { result.now ≡ file_of self.now }
-    {
-        match self {
-            Command::Run(file) | Command::Check(file) => file,
-        }
-    }
+    /// To say how many formulas of the four families are valid, for the numbers from 1 to this one.
+    Gen(u64),
 }

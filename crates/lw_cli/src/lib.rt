@@ -1,5 +1,5 @@
-//! The workbench's commands over a store and a sink: `run FILE` carries out a script, and `check FILE` reads a
-//! certificate and writes whether it shows what it claims.
+//! The workbench's commands over a store and a sink: `run FILE` carries out a script, `check FILE` reads a certificate
+//! and writes whether it shows what it claims, and `gen N` counts the valid formulas of four families.
 #![tactic(auto)]
 
 mod asked;
@@ -8,6 +8,7 @@ mod check_file;
 mod fault_line;
 mod file_limit;
 mod finding;
+mod gen_families;
 mod laws;
 mod report;
 mod run_file;

@@ -1,8 +1,8 @@
-ghost use Rattle.std.specs.Prelude.{◌≡◌, ◌≢◌, ◌≤◌, ◌⊎◌, ◌↔◌, None, map, string_bytes};
+ghost use Rattle.std.specs.Prelude.{◌≡◌, ◌≢◌, ◌≤◌, ◌⊎◌, ◌↔◌, map, string_bytes};
 ghost use Rattle.lw_io.specs.Causes.{Rose};
-ghost use Rattle.lw_cli.specs.Asked.{command_of};
-ghost use Rattle.lw_cli.specs.Headline.{AsksFor, Answers, IsCutShort, IsUnsureOf};
-ghost use Rattle.lw_cli.specs.Completeness.{IsSureOf, RunsSoundScript};
+ghost use Rattle.lw_cli.specs.Asked.{AskNothing};
+ghost use Rattle.lw_cli.specs.Headline.{AsksFor, Answers, IsCutShort, IsSureOf, IsUnsureOf, FetchesNothing};
+ghost use Rattle.lw_cli.specs.Completeness.{RunsSoundScript};
 
 use crate::carry_out::carry_out;
 use crate::words::command;
@@ -28,13 +28,14 @@ pub fn workbench<S: Store, K: Sink>(
     ensures carried_out { (result ≡ 0) ⊎ (result ≡ 1) → AsksFor (map string_bytes words.now) (λ command.
         Answers command (S.holds store.old) (K.written sink.old) (K.written sink.new) result) }
 
-    ensures no_command { result ≡ 2 ↔ (command_of (map string_bytes words.now) ≡ None) }
+    ensures no_command { result ≡ 2 ↔ AskNothing (map string_bytes words.now) }
     ensures nothing_written { result ≡ 2 → K.written sink.new ≡ K.written sink.old }
     ensures nothing_failed { result ≡ 2 → (S.faults store.new ≡ S.faults store.old) × (K.faults sink.new ≡ K.faults sink.old) }
 
     ensures store_failed { result ≡ 3 → Rose (S.faults store.old) (S.faults store.new) }
     ensures store_unsure { result ≡ 3 → AsksFor (map string_bytes words.now) (IsUnsureOf (S.sure store.old) (S.holds store.old)) }
     ensures store_unwritten { result ≡ 3 → K.written sink.new ≡ K.written sink.old }
+    ensures store_untouched { AsksFor (map string_bytes words.now) FetchesNothing → store.new ≡ store.old }
 
     // After a fault of the sink, or without memory, what was written is a first part of such an output, or what a run of the
     // file's script has written where it was cut.
