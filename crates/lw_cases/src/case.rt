@@ -11,7 +11,7 @@ use crate::runs::left_line;
 use crate::scripts::{script_cuts_line, script_line, script_tree_line};
 use crate::setting::Setting;
 use crate::texts::{chars_line, read_line, token_line};
-use crate::top_call::run_line;
+use crate::top_call::{run_cuts_line, run_line};
 use crate::unanswered::Unanswered;
 use crate::values::{equal_line, list_line, print_values_line, value_line};
 use crate::variables::variables_line;
@@ -32,6 +32,7 @@ pub fn written(setting: &mut Setting, verb: &str, rest: &str) -> Result<Vec<u8>,
             setting.forget();
             Ok(line)
         }
+        "run-cuts" => Ok(run_cuts_line(setting, rest)?.into_bytes()),
         "chain" => Ok(chain_line(setting.alloc, logic_of(rest)?)?.into_bytes()),
         "logics" => logics_line(setting),
         "boxes" | "released" | "doubled" | "renamed" => of_number(setting.alloc, verb, rest),

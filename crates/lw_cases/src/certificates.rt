@@ -4,7 +4,7 @@ ghost use Rattle.std.specs.Prelude.{◌≡◌};
 ghost use Rattle.lw_cases.specs.Certified.{certificate_of};
 
 use crate::formulas::entered;
-use crate::items::add_item;
+use crate::repeats::{add_repeat, repeat_list};
 use crate::setting::Setting;
 use crate::top_call::both_lines;
 use crate::unanswered::Unanswered;
@@ -122,41 +122,9 @@ fn fault_text(alloc: Global, text: &[u8]) -> Result<String, AllocError> {
 
 /// The faults of the text cut behind each of its bytes from none on, each with how often it comes in a row.
 pub fn cut_line(alloc: Global, text: &[u8]) -> Result<String, AllocError> {
-    let mut runs = Vec::new(alloc);
+    let mut faults = Vec::new(alloc);
     for len in 0..=text.len() {
-        add_run(&mut runs, fault_text(alloc, &text[..len])?)?;
+        add_repeat(&mut faults, fault_text(alloc, &text[..len])?)?;
     }
-    run_list(alloc, &runs)
-}
-
-fn is_last(runs: &[(String, usize)], fault: &str) -> bool {
-    match runs.last() {
-        Some((last, _)) => last.as_str() == fault,
-        None => false,
-    }
-}
-
-fn count_last(runs: &mut [(String, usize)]) {
-    let len = runs.len();
-    if len > 0 {
-        runs[len - 1].1 = runs[len - 1].1.saturating_add(1);
-    }
-}
-
-// Counts a fault with the last run, or begins one.
-fn add_run(runs: &mut Vec<(String, usize)>, fault: String) -> Result<(), AllocError> {
-    if is_last(runs, fault.as_str()) {
-        count_last(runs);
-    } else {
-        runs.push((fault, 1))?;
-    }
-    Ok(())
-}
-
-fn run_list(alloc: Global, runs: &[(String, usize)]) -> Result<String, AllocError> {
-    let mut list = String::new(alloc);
-    for (fault, count) in runs {
-        add_item(&mut list, format!(in alloc; "{count} {fault}")?.as_str())?;
-    }
-    Ok(list)
+    repeat_list(alloc, &faults)
 }

@@ -16,6 +16,7 @@ mod items;
 mod models;
 mod numbers;
 mod pools;
+mod repeats;
 mod runs;
 mod scripts;
 mod setting;

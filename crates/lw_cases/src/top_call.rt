@@ -1,4 +1,8 @@
+ghost use Rattle.std.specs.Prelude.{◌≤◌, length};
+
+use crate::repeats::{add_repeat, repeat_list};
 use crate::setting::Setting;
+use crate::unanswered::Unanswered;
 use lw_cli::workbench;
 use lw_formula::Logic;
 use std::alloc::{AllocError, Global};
@@ -30,6 +34,25 @@ pub fn run_line(setting: &Setting, words: &str) -> Result<Vec<u8>, AllocError> {
         line.extend_from_slice(&written)?;
     }
     Ok(line)
+}
+
+// The same over the first so many bytes of the text.
+fn cut_line(setting: &Setting, len: usize, words: &str) -> Result<String, Unanswered>
+    requires { len ≤ length setting.now.text.items }
+{
+    let mut cut = Setting::new(setting.alloc);
+    cut.text = Vec::from_slice(setting.alloc, &setting.text[..len])?;
+    let line = run_line(&cut, words)?;
+    String::from_utf8(line).map_err(|_| Unanswered)
+}
+
+/// The same over the text cut behind each of its bytes from none on, each with how often it comes in a row.
+pub fn run_cuts_line(setting: &Setting, words: &str) -> Result<String, Unanswered> {
+    let mut lines = Vec::new(setting.alloc);
+    for len in 0..=setting.text.len() {
+        add_repeat(&mut lines, cut_line(setting, len, words)?)?;
+    }
+    Ok(repeat_list(setting.alloc, &lines)?)
 }
 
 // A script that prints what the function gives for the logic and the setting's text, a formula.
