@@ -1,4 +1,4 @@
-ghost use Rattle.std.specs.Prelude.{◌∷◌, [], map, string_bytes, IfOk, OnErr};
+ghost use Rattle.std.specs.Prelude.{◌∷◌, [], ◌<◌, ◌↔◌, get_or, map, string_bytes, IfOk, OnErr, IsTrue};
 ghost use Rattle.lw_cli.specs.declared.asked.Command.{Command};
 ghost use Rattle.lw_cli.specs.Asked.{Ask};
 ghost use Rattle.lw_cli.specs.Private.AskedWords.{IsCommandOf, IsNumberOf};
@@ -36,11 +36,21 @@ fn command_of(alloc: Global, verb: &str, word: &str) -> Result<Option<Command>, 
 fn number_of(word: &str) -> Option<u64>
     ensures { IsNumberOf word.now result }
 {
-    if word.starts_with('+') || word.starts_with('0') {
+    if !begins_above_zero(word.as_bytes()) {
         return None;
     }
     match word.parse::<u64>() {
-        Ok(number) if 1 <= number && number <= 100 => Some(number),
+        Ok(number) if number <= 100 => Some(number),
         _ => None,
+    }
+}
+
+// Whether the first byte stands behind `0`, as that of a number without a sign or a leading zero does.
+fn begins_above_zero(word: &[u8]) -> bool
+    ensures { IsTrue result ↔ 48 < get_or word.now 0 0 }
+{
+    match word.first() {
+        Some(first) => *first > b'0',
+        None => false,
     }
 }
