@@ -46,11 +46,11 @@ fn defaults(alloc: Global, pool: &mut Pool, boxes: &[FormId]) -> Result<Vec<Imag
     Ok(images)
 }
 
-/// The id of the fixed point of the formula with their defaults for the boxes that are taken. The others with the
-/// variable are left. Fixed points are kept by the ids of their formulas, so that each is found once.
+/// The id of the fixed point of the formula with their defaults for the boxes that are taken, where those that are left
+/// are all others with the variable. Fixed points are kept by the ids of their formulas, so that each is found once.
 ///
-/// Every walk is over the formula or one of its boxes, and none over a formula that is made on the way: those have
-/// great ids, and so long tables.
+/// Every walk is over the formula or one of its boxes. None is over a formula that was made on the way: its id is great,
+/// and so its table is long.
 fn solve(
     alloc: Global,
     pool: &mut Pool,
@@ -75,8 +75,8 @@ fn solve(
     let mut images = Vec::from_slice(alloc, taken)?;
     for at in 0..left.len() {
         let one = left[at];
-        let more = with(alloc, taken, one)?;
-        let fewer = without(alloc, left, at)?;
+        let more = with_image(alloc, taken, one)?;
+        let fewer = without_image(alloc, left, at)?;
         let point = solve(alloc, pool, solved, name, id, &more, &fewer)?;
         let by = pool.substitute(one.of, name, point)?;
         images.push(Image { of: one.of, by })?;
@@ -87,7 +87,7 @@ fn solve(
 }
 
 /// The images with one more behind them.
-fn with(alloc: Global, images: &[Image], one: Image) -> Result<Vec<Image>, AllocError>
+fn with_image(alloc: Global, images: &[Image], one: Image) -> Result<Vec<Image>, AllocError>
     ensures { IfOk result (λ more. more.items ≡ images.now ++ one ∷ []) }
 {
     let mut more = Vec::from_slice(alloc, images)?;
@@ -96,7 +96,7 @@ fn with(alloc: Global, images: &[Image], one: Image) -> Result<Vec<Image>, Alloc
 }
 
 /// The images without the one at this place.
-fn without(alloc: Global, images: &[Image], at: usize) -> Result<Vec<Image>, AllocError>
+fn without_image(alloc: Global, images: &[Image], at: usize) -> Result<Vec<Image>, AllocError>
     requires { at < length images.now }
     ensures { IfOk result (λ fewer. fewer.items ≡ remove images.now at) }
 {

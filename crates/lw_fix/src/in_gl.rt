@@ -23,7 +23,7 @@ pub const BOX_LIMIT: usize = 10;
 /// it had, and perhaps formulas above.
 ///
 /// The work is that of at most 2 to the power n formulas, one for each set of the n outermost modal subformulas, each
-/// built once and with at most n substitutions.
+/// solved once and with at most n substitutions. Every walk is over this formula or one of its subformulas.
 pub fn fixed_point(
     alloc: Global,
     pool: &mut Pool,

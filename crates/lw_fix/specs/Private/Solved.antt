@@ -9,7 +9,7 @@ use Rattle.lw_fix.specs.Outermost.{IsOutermost}
 use Rattle.lw_fix.specs.FixedPoint.{default_of, fix}
 use Rattle.lw_fix.specs.Private.Images.{IsImage}
 
--- the images are the defaults of formulas with p, and all outermost modal subformulas of a with p are among these
+-- each image is the default of a formula with p, and each outermost modal subformula of a with p has one
 pub record AreBoxes (ts : List Formula) (p : List ℕ) (a : Formula) (images : List Image) : Type 0 where
   pub right : All (IsImage default_of ts) images
   pub sound : (i : Image) → Contains images i → Occurs p (tree_at ts i.of)
