@@ -10,9 +10,7 @@ use Rattle.lw_pool.specs.declared.id.FormId.{FormId}
 use Rattle.lw_pool.specs.Region.{tree_at, IsLive, IsAt, AreIdsExact, Grows}
 use Rattle.lw_fix.specs.declared.image.Image.{Image}
 use Rattle.lw_fix.specs.Outermost.{at_outermost}
-use Rattle.lw_fix.specs.FixedPoint.{default_of, without}
 use Rattle.lw_fix.specs.Private.Images.{AreImagesLive, image_at, image_in, image_in-grows}
-use Rattle.lw_fix.proofs.OutermostFormulas.{at_equal}
 
 abbrev pub or_self : Option FormId → FormId → FormId
 or_self None at = at
@@ -75,26 +73,3 @@ pub put-equi : {E : Type 0} (old new : List Formula) (images : List Image) (at a
     IfOk r (IsAt new (equi (tree_at old da) (tree_at old db))) → IfOk r (IsAt new (at_outermost (image_in new images) (tree_at old at)))
 put-equi old new images at a b da db r g live is x y made =
     subst (λ t. IfOk r (IsAt new t)) ((λ i. equi (x.1 i) (y.1 i)) ∙ grown old new images at (equi (tree_at old a) (tree_at old b)) g live is) made
-
--- with its default for one formula alone
-without-image : (ts : List Formula) (a : Formula) (of by : FormId) → tree_at ts by ≡ default_of (tree_at ts of) →
-    at_outermost (image_in ts (record { of = of; by = by } ∷ [])) a ≡ without (tree_at ts of) a
-without-image ts a of by e =
-    at_equal (image_in ts (record { of = of; by = by } ∷ [])) (λ x. if same_formula x (tree_at ts of) then default_of x else x) a
-    (λ x o. by_test x (same_formula x (tree_at ts of)) (same_formula-Decides x (tree_at ts of)))
-  where
-    by_test : (x : Formula) (t : Bool) → Decides t (x ≡ tree_at ts of) → (if t then tree_at ts by else x) ≡ (if t then default_of x else x)
-    by_test x true d = e ∙ ap default_of (sym (d.0 refl))
-    by_test x false d = refl
-
-pub without-right : {E : Type 0} (old mid new : List Formula) (id of by : FormId) (r : Result FormId E) → IsLive old id → IsLive old of → Grows old mid → Grows mid new →
-    IsAt mid (default_of (tree_at old of)) by →
-    IfOk r (IsAt new (at_outermost (image_in new (record { of = of; by = by } ∷ [])) (tree_at mid id))) →
-    IfOk r (IsAt new (without (tree_at old of) (tree_at old id)))
-without-right old mid new id of by r vi vo g h at made =
-    let same : tree_at new of ≡ tree_at old of = h.same of (omega (arith, g.longer)) ∙ g.same of vo in
-    subst (λ t. IfOk r (IsAt new t))
-    (ap (at_outermost (image_in new (record { of = of; by = by } ∷ []))) (g.same id vi)
-    ∙ without-image new (tree_at old id) of by (h.same by at.0 ∙ at.1 ∙ ap default_of (sym same))
-    ∙ ap (λ t. without t (tree_at old id)) same)
-    made

@@ -63,12 +63,12 @@ found_step ts marks letters ids at false e h = record {
   distinct = h.distinct;
 }
 
-Contains-map : {X Y : Type 0} (f : X → Y) (xs : List X) (x : X) → Contains xs x → Contains (map f xs) (f x)
+pub Contains-map : {X Y : Type 0} (f : X → Y) (xs : List X) (x : X) → Contains xs x → Contains (map f xs) (f x)
 Contains-map f [] x h = absurd (Contains-nil x h)
 Contains-map f (y ∷ ys) x h =
     ⊎_elim (λ e. subst (λ z. Contains (f y ∷ map f ys) (f z)) e (Contains-head (f y) (map f ys))) (λ r. Contains-tail (f y) (map f ys) (f x) (Contains-map f ys x r)) (Contains-cons_cases y ys x h)
 
-Contains-map_cases : {X Y : Type 0} (f : X → Y) (xs : List X) (y : Y) → Contains (map f xs) y → (x : X) × Contains xs x × (f x ≡ y)
+pub Contains-map_cases : {X Y : Type 0} (f : X → Y) (xs : List X) (y : Y) → Contains (map f xs) y → (x : X) × Contains xs x × (f x ≡ y)
 Contains-map_cases f [] y h = absurd (Contains-nil y h)
 Contains-map_cases f (x ∷ xs) y h =
     ⊎_elim (λ e. (x, Contains-head x xs, e)) (λ r. let t = Contains-map_cases f xs y r in (t.0, Contains-tail x xs t.0 t.1, t.2)) (Contains-cons_cases (f x) (map f xs) y h)

@@ -4,7 +4,7 @@ ghost use Rattle.lw_fix.specs.FixedPoint.{fix};
 ghost use Rattle.lw_fix.specs.FixFaults.{IsWithinLimit, IsFaultOf};
 
 use crate::bare::stands_bare;
-use crate::construction::solve;
+use crate::construction::construct;
 use crate::fault::FixFault;
 use crate::outermost::outermost;
 use lw_formula::Name;
@@ -23,7 +23,7 @@ pub const BOX_LIMIT: usize = 10;
 /// it had, and perhaps formulas above.
 ///
 /// The work is that of at most 2 to the power n formulas, one for each set of the n outermost modal subformulas, each
-/// built once and with at most n substitutions.
+/// solved once and with at most n substitutions. Every walk is over this formula or one of its subformulas.
 pub fn fixed_point(
     alloc: Global,
     pool: &mut Pool,
@@ -45,6 +45,5 @@ pub fn fixed_point(
     if count > BOX_LIMIT {
         return Err(FixFault::TooManyBoxes { count });
     }
-    let mut solved = Vec::new(alloc);
-    Ok(solve(alloc, pool, &mut solved, name, formula, count)?)
+    Ok(construct(alloc, pool, name, formula, &boxes)?)
 }

@@ -13,6 +13,10 @@ use Rattle.lw_fix.specs.Outermost.{at_outermost}
 abbrev pub AreImagesLive : List Formula → List Image → Type 0
 AreImagesLive ts images = All (λ i. IsLive ts i.of × IsLive ts i.by) images
 
+-- the image is what f gives for its formula
+abbrev pub IsImage : (Formula → Formula) → List Formula → Image → Type 0
+IsImage f ts i = IsLive ts i.of × IsAt ts (f (tree_at ts i.of)) i.by
+
 -- the first image of the id
 abbrev pub image_at : List Image → FormId → Option FormId
 image_at [] at = None
