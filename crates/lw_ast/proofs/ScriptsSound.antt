@@ -74,6 +74,9 @@ arity-some function.Count = omega arith
 arity-some function.Length = omega arith
 arity-some function.Item = omega arith
 arity-some function.Append = omega arith
+arity-some function.Smallest = omega arith
+arity-some function.Trace = omega arith
+arity-some function.Letterless = omega arith
 
 -- one statement more
 gathers : (from mid : List ScriptLexeme) (ss : Statements) (s : Statement) (ts : List ScriptLexeme) → Gathered from ss mid → States mid s ts → Gathered from (behind ss s) ts

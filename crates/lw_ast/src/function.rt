@@ -16,4 +16,7 @@ pub enum Function {
     Length,
     Item,
     Append,
+    Smallest,
+    Trace,
+    Letterless,
 }

@@ -203,6 +203,12 @@ pub fn function_of(word: &[u8]) -> Option<Function>
         Some(Function::Item)
     } else if word == b"append".as_slice() {
         Some(Function::Append)
+    } else if word == b"smallest".as_slice() {
+        Some(Function::Smallest)
+    } else if word == b"trace".as_slice() {
+        Some(Function::Trace)
+    } else if word == b"letterless".as_slice() {
+        Some(Function::Letterless)
     } else {
         None
     }
@@ -308,6 +314,9 @@ pub fn arity(function: Function) -> usize
         | Function::Vars
         | Function::Depth
         | Function::Count
-        | Function::Length => 1,
+        | Function::Length
+        | Function::Smallest
+        | Function::Trace
+        | Function::Letterless => 1,
     }
 }
