@@ -1,5 +1,6 @@
 pub mod OutermostFormulas
 pub mod WorldInduction
+pub mod StrictOrders
 pub mod AlikeFormulas
 pub mod ConstructedFormulas
 pub mod FixedPoints

@@ -25,18 +25,24 @@ fewer_past xs v u n h l =
     let both : length (filter (is_to u) xs) + length (filter (is_past u) xs) ≡ length xs = length-filter_both (is_to u) (is_past u) (λ x. refl) xs in
     omega arith
 
-climb_within : (m : FiniteModel) → IsTransitive m → IsIrreflexive m → (P : ℕ → Type 0) → ((v : ℕ) → ((u : ℕ) → Sees m v u → P u) → P v) →
-    (n : ℕ) (xs : List (ℕ × ℕ)) → length xs ≤ n → (w : ℕ) → Covers m xs w → P w
-climb_within m up apart P step zero xs l w covers = step w (λ u s. let h = (covers u s).1 in let bad : ⊥ = omega (arith, h.1) in absurd bad)
-climb_within m up apart P step (suc n) xs l w covers =
-    step w (λ u s.
+climb_within : (m : FiniteModel) → IsTransitive m → IsIrreflexive m → (P : ℕ → ℕ → Type 0) →
+    ((w : ℕ) → ((u : ℕ) → ¬ Sees m w u) → P 0 w) → ((n w : ℕ) → ((u : ℕ) → Sees m w u → P n u) → P (suc n) w) →
+    (n : ℕ) (xs : List (ℕ × ℕ)) → length xs ≤ n → (w : ℕ) → Covers m xs w → P n w
+climb_within m up apart P base step zero xs l w covers = base w (λ u s. let h = (covers u s).1 in let bad : ⊥ = omega (arith, h.1) in bad)
+climb_within m up apart P base step (suc n) xs l w covers =
+    step n w (λ u s.
     let pair = covers u s in
-    climb_within m up apart P step n (filter (is_past u) xs) (fewer_past xs pair.0 u n pair.1 (omega arith)) u (λ v t.
+    climb_within m up apart P base step n (filter (is_past u) xs) (fewer_past xs pair.0 u n pair.1 (omega arith)) u (λ v t.
     let next = covers v (up w u v s t) in (
       next.0,
       Contains-filter (is_past u) xs (next.0, v) next.1
           ((Decides-not (v == u) (Decides-eqb v u)).1 (λ e. apart u (subst (Sees m u) e t))),
     )))
 
+-- the same with a number that is one less at the worlds seen: no path has more steps than there are pairs
+pub climb_counted : (m : FiniteModel) → IsTransitive m → IsIrreflexive m → (P : ℕ → ℕ → Type 0) →
+    ((w : ℕ) → ((u : ℕ) → ¬ Sees m w u) → P 0 w) → ((n w : ℕ) → ((u : ℕ) → Sees m w u → P n u) → P (suc n) w) → (w : ℕ) → P (length m.pairs) w
+climb_counted m up apart P base step w = climb_within m up apart P base step (length m.pairs) m.pairs (omega arith) w (λ u s. (w, s))
+
 pub climb : (m : FiniteModel) → IsTransitive m → IsIrreflexive m → (P : ℕ → Type 0) → ((v : ℕ) → ((u : ℕ) → Sees m v u → P u) → P v) → (w : ℕ) → P w
-climb m up apart P step w = climb_within m up apart P step (length m.pairs) m.pairs (omega arith) w (λ u s. (w, s))
+climb m up apart P step w = climb_counted m up apart (λ _ v. P v) (λ v none. step v (λ u s. absurd (none u s))) (λ _ v above. step v above) w

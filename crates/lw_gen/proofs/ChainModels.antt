@@ -8,32 +8,9 @@ use Rattle.lw_formula.specs.FiniteModel.{FiniteModel, IsWellFormed, Sees, AreDis
 use Rattle.lw_formula.specs.Truth.{IsTrueAt}
 use Rattle.lw_formula.specs.Validity.{Valid}
 use Rattle.lw_formula.proofs.ListMembers.{Contains-nil, Contains-head, Contains-tail, Contains-cons_cases, All-members, AreDistinct-nil, AreDistinct-cons, AreDistinct-append}
+use Rattle.lw_fix.proofs.StrictOrders.{each, each-cases, each-has, each-distinct, order, rises, rising, order-IsWellFormed, order-Class}
 use Rattle.lw_gen.specs.declared.families.Family.TheVariants.{Transitive, Reflexive}
 use Rattle.lw_gen.specs.Families.{p, boxes, family_formula}
-
--- what f gives of the numbers below n
-abbrev each : {X : Type 0} → (ℕ → X) → ℕ → List X
-each f zero = []
-each f (suc n) = f n ∷ each f n
-
-each-cases : {X : Type 0} (f : ℕ → X) (n : ℕ) (x : X) → Contains (each f n) x → (v : ℕ) × (v < n) × (f v ≡ x)
-each-cases f zero x h = absurd (Contains-nil x h)
-each-cases f (suc n) x h =
-    ⊎_elim (λ e. (n, omega arith, e)) (λ r. let b = each-cases f n x r in (b.0, omega (arith, b.1), b.2)) (Contains-cons_cases (f n) (each f n) x h)
-
-each-has : {X : Type 0} (f : ℕ → X) (n v : ℕ) → v < n → Contains (each f n) (f v)
-each-has f zero v l = absurd (omega (arith, l))
-each-has f (suc n) v l =
-    ⊎_elim (λ e. subst (λ u. Contains (each f (suc n)) (f u)) (sym e) (Contains-head (f n) (each f n)))
-    (λ other. Contains-tail (f n) (each f n) (f v) (each-has f n v (omega arith)))
-    (cases_eq v n)
-
-each-distinct : {X : Type 0} (f : ℕ → X) (n : ℕ) → ((u v : ℕ) → f u ≡ f v → u ≡ v) → AreDistinct (each f n)
-each-distinct f zero one = AreDistinct-nil
-each-distinct f (suc n) one =
-    AreDistinct-cons (f n) (each f n)
-    (λ h. let b = each-cases f n (f n) h in let same : b.0 ≡ n = one b.0 n b.2 in let bad : ⊥ = omega (arith, b.1, same) in bad)
-    (each-distinct f n one)
 
 abbrev loops : ℕ → List (ℕ × ℕ)
 loops n = each (λ v. (v, v)) n
@@ -108,48 +85,6 @@ not_in_KT i valid = chain-refutes i (valid (chain (suc i)) (record { well_formed
 pub not_in_K : (i : ℕ) → ¬ Valid K (family_formula Transitive i)
 not_in_K i valid = chain-refutes i (valid (chain (suc i)) (record { well_formed = chain-IsWellFormed (suc i); frame = tt }) 0 (omega arith))
 
--- the pairs of the numbers below n, the smaller first
-abbrev upwards : ℕ → List (ℕ × ℕ)
-upwards zero = []
-upwards (suc n) = each (λ v. (v, n)) n ++ upwards n
-
--- the worlds below n, each of which sees the greater ones, and p is true nowhere
-abbrev order : ℕ → FiniteModel
-order n = record { worlds = n; pairs = upwards n; facts = [] }
-
-rises : (n : ℕ) (x : ℕ × ℕ) → Contains (upwards n) x → (x.0 < x.1) × (x.1 < n)
-rises zero x h = absurd (Contains-nil x h)
-rises (suc n) x h =
-    ⊎_elim
-    (λ a. let b = each-cases (λ v. (v, n)) n x a in
-    let at : b.0 ≡ x.0 = ap (λ y. y.0) b.2 in let to : n ≡ x.1 = ap (λ y. y.1) b.2 in (omega (arith, at, to, b.1), omega (arith, to)))
-    (λ a. let b = rises n x a in (b.0, omega (arith, b.1)))
-    (Contains-append_cases (each (λ v. (v, n)) n) (upwards n) x h)
-
-rising : (n v w : ℕ) → v < w → w < n → Contains (upwards n) (v, w)
-rising zero v w l b = absurd (omega (arith, b))
-rising (suc n) v w l b =
-    ⊎_elim
-    (λ e. Contains-append_left (each (λ u. (u, n)) n) (upwards n) (v, w)
-    (subst (λ u. Contains {X = ℕ × ℕ} (each (λ x. (x, n)) n) (v, u)) (sym e) (each-has {X = ℕ × ℕ} (λ u. (u, n)) n v (omega (arith, e, l)))))
-    (λ other. Contains-append_right (each (λ u. (u, n)) n) (upwards n) (v, w) (rising n v w l (omega arith)))
-    (cases_eq w n)
-
-upwards-distinct : (n : ℕ) → AreDistinct (upwards n)
-upwards-distinct zero = AreDistinct-nil
-upwards-distinct (suc n) =
-    AreDistinct-append (each (λ v. (v, n)) n) (upwards n) (each-distinct (λ v. (v, n)) n (λ u v e. ap (λ y. y.0) e)) (upwards-distinct n) (λ x a b.
-    let c = each-cases (λ v. (v, n)) n x a in let to : n ≡ x.1 = ap (λ y. y.1) c.2 in let d = rises n x b in omega (arith, to, d.1))
-
-order-IsWellFormed : (n : ℕ) → 1 ≤ n → IsWellFormed (order n)
-order-IsWellFormed n some = record {
-  inhabited = some;
-  pairs_within = All-members (λ x. (x.0 < n) × (x.1 < n)) (upwards n) (λ x h. let r = rises n x h in (omega (arith, r.0, r.1), r.1));
-  pairs_distinct = upwards-distinct n;
-  facts_within = All-nil (λ f. f.0 < n);
-  facts_distinct = AreDistinct-nil;
-}
-
 -- where no path of k steps begins, all is true under k boxes
 order-holds : (n k w : ℕ) → n ≤ k + w → w < n → IsTrueAt (order n) w (boxes k p)
 order-holds n zero w l b = absurd (omega (arith, l, b))
@@ -164,15 +99,7 @@ pub order-refutes : (i : ℕ) → ¬ IsTrueAt (order (suc i)) 0 (family_formula 
 order-refutes i h = order-fails (suc i) i 0 (omega arith) (h (order-holds (suc i) (suc i) 0 (omega arith) (omega arith)))
 
 pub irreflexive_in_GL : (i : ℕ) → ¬ Valid GL (family_formula Reflexive i)
-irreflexive_in_GL i valid =
-    order-refutes i
-    (valid (order (suc i)) (record {
-      well_formed = order-IsWellFormed (suc i) (omega arith);
-      frame = (
-        λ u v w s t. let r = rises (suc i) (u, v) s in let q = rises (suc i) (v, w) t in rising (suc i) u w (omega (arith, r.0, q.0)) q.1,
-        λ w s. let r = rises (suc i) (w, w) s in omega (arith, r.0),
-      );
-    }) 0 (omega arith))
+irreflexive_in_GL i valid = order-refutes i (valid (order (suc i)) (order-Class (suc i) (omega arith)) 0 (omega arith))
 
 pub irreflexive_in_K : (i : ℕ) → ¬ Valid K (family_formula Reflexive i)
 irreflexive_in_K i valid = order-refutes i (valid (order (suc i)) (record { well_formed = order-IsWellFormed (suc i) (omega arith); frame = tt }) 0 (omega arith))

@@ -1,0 +1,11 @@
+pub mod MappedLists
+pub mod WorldHeights
+pub mod BelowHeights
+pub mod HeightTruth
+pub mod SettledTruth
+pub mod OrderedWorlds
+pub mod FormTruth
+pub mod TraceTruth
+pub mod RowTruth
+pub mod DepthCounts
+pub mod FirstVariables
