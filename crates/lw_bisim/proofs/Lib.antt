@@ -1,0 +1,10 @@
+pub mod TruthKept
+pub mod RoundTests
+pub mod TellingFormulas
+pub mod WorldPairs
+pub mod StillRounds
+pub mod Injections
+pub mod LeastWorlds
+pub mod StrictClimbs
+pub mod QuotientFrames
+pub mod SmallestModels
