@@ -8,3 +8,9 @@ pub mod LeastWorlds
 pub mod StrictClimbs
 pub mod QuotientFrames
 pub mod SmallestModels
+pub mod JoinedClasses
+pub mod SeenClasses
+pub mod NumberedKeys
+pub mod SortedLists
+pub mod RoundKeys
+pub mod KeyedClasses

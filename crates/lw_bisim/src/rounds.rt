@@ -1,8 +1,8 @@
-ghost use Rattle.std.specs.Prelude.{◌≡◌, ℕ, suc, ◌<◌, ◌↔◌, Contains, IfOk, List, length};
+ghost use Rattle.std.specs.Prelude.{◌≡◌, ℕ, suc, ◌<◌, ◌↔◌, All, Contains, IfOk, length};
 ghost use Rattle.std.specs.Ordering.{nat_cmp};
 ghost use Rattle.std.specs.List.Sorted.{IsStrictlySortedBy};
-ghost use Rattle.lw_bisim.specs.Bisimulation.{AreBisimilar, HaveSameLetters};
-ghost use Rattle.lw_bisim.specs.Private.Classes.{SeesClass};
+ghost use Rattle.lw_bisim.specs.Bisimulation.{AreBisimilar};
+ghost use Rattle.lw_bisim.specs.Private.Classes.{HasClass};
 ghost use Rattle.lw_bisim.specs.Private.Rounds.{AreAlike, AreClassesOf};
 
 use crate::classes::{Classes, classes_by};
@@ -51,11 +51,11 @@ fn refined(alloc: Global, model: &Model, classes: &Classes) -> Result<Classes, A
 }
 
 // The classes of these worlds, in order, each once.
-fn seen_classes(
-    alloc: Global,
-    places: &[usize],
-    worlds: &[usize],
-) -> Result<Vec<usize>, AllocError> {
+fn seen_classes(alloc: Global, places: &[usize], worlds: &[usize]) -> Result<Vec<usize>, AllocError>
+    requires { All (λ w. w < length places.now) worlds.now }
+    ensures exact { IfOk result (λ seen. (c : ℕ) → Contains seen.items c ↔ HasClass places.now worlds.now c) }
+    ensures ordered { IfOk result (λ seen. IsStrictlySortedBy nat_cmp seen.items) }
+{
     let mut seen = Vec::with_capacity(alloc, worlds.len())?;
     for world in worlds {
         seen.push(places[*world])?;

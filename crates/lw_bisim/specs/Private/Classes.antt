@@ -1,8 +1,11 @@
 -- Classes of worlds that are found by a key of each.
-use Rattle.std.specs.Prelude.{◌≡◌, ℕ, ◌<◌, ◌↔◌, Bool, IsTrue, List, length}
+use Rattle.std.specs.Prelude.{◌≡◌, ℕ, ◌<◌, ◌↔◌, Bool, Contains, IsTrue, List, length}
 use Rattle.std.specs.List.{slice_index_or}
-use Rattle.lw_formula.specs.FiniteModel.{FiniteModel, Sees}
 use Rattle.lw_bisim.specs.Quotient.{place_of, AreNumbered}
+
+-- one of these worlds is of class c
+abbrev pub HasClass : List ℕ → List ℕ → ℕ → Type 0
+HasClass places worlds c = (w : ℕ) × Contains worlds w × (place_of places w ≡ c)
 
 -- the i-th and the j-th are equal by the test
 abbrev pub AreEqualAt : {K : Type 0} → (K → K → Bool) → List K → ℕ → ℕ → Type 0
@@ -13,7 +16,3 @@ pub record AreClassesBy {K : Type 0} (eq : K → K → Bool) (keys : List K) (pl
   pub placed : length places ≡ length keys
   pub numbered : AreNumbered places count
   pub classes : (i j : ℕ) → i < length keys → j < length keys → (place_of places i ≡ place_of places j) ↔ AreEqualAt eq keys i j
-
--- world v sees some world of class c
-abbrev pub SeesClass : FiniteModel → List ℕ → ℕ → ℕ → Type 0
-SeesClass m places v c = (w : ℕ) × Sees m v w × (place_of places w ≡ c)

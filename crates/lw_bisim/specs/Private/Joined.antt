@@ -2,12 +2,13 @@
 use Rattle.std.specs.Prelude.{◌≡◌, ℕ, ◌<◌, ◌⊎◌, ◌↔◌, Contains, List}
 use Rattle.lw_formula.specs.FiniteModel.{FiniteModel, Sees, HasFact}
 use Rattle.lw_bisim.specs.Quotient.{place_of}
+use Rattle.lw_bisim.specs.Private.Classes.{HasClass}
 
 -- class c sees the classes of these worlds too, and nothing else is new
 pub record AddsSeen (places : List ℕ) (old : FiniteModel) (c : ℕ) (seen : List ℕ) (new : FiniteModel) : Type 0 where
   pub worlds : new.worlds ≡ old.worlds
   pub facts : new.facts ≡ old.facts
-  pub sees : (a b : ℕ) → Sees new a b ↔ (Sees old a b ⊎ ((c ≡ a) × ((w : ℕ) × Contains seen w × (place_of places w ≡ b))))
+  pub sees : (a b : ℕ) → Sees new a b ↔ (Sees old a b ⊎ ((c ≡ a) × HasClass places seen b))
 
 -- these letters are true at class c too, and nothing else is new
 pub record AddsNames (old : FiniteModel) (c : ℕ) (names : List (List ℕ)) (new : FiniteModel) : Type 0 where
