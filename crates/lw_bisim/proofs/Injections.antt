@@ -1,5 +1,5 @@
 -- A map that takes the numbers below k to different numbers below n shows that k is at most n.
-use Rattle.std.proofs.Common.{◌≡◌, ◌≢◌, ℕ, ◌+◌, ◌<◌, ◌≤◌, zero, suc, List, [], ◌∷◌, length, ◌⊎◌, inl, inr, ⊎_elim, refl, ap, subst, sym, ◌∙◌, arith}
+use Rattle.std.proofs.Common.{◌≡◌, ◌≢◌, ℕ, ◌<◌, ◌≤◌, zero, suc, List, [], ◌∷◌, length, ◌⊎◌, inl, inr, ⊎_elim, refl, subst, sym, arith}
 use Rattle.std.proofs.lemmas.Bool.{cases_eq}
 use Rattle.std.specs.List.{Contains}
 use Rattle.lw_formula.specs.FiniteModel.{AreDistinct}
@@ -49,8 +49,8 @@ images-AreDistinct f (suc k) h =
 pub le-from_injection : (f : ℕ → ℕ) (k n : ℕ) → ((c : ℕ) → c < k → f c < n) → TakesApart f k → k ≤ n
 le-from_injection f k n within apart =
     let some : length (images f k) ≤ length (images (λ x. x) n) =
-        length-le_from_members (images f k) (images (λ x. x) n) (images-AreDistinct f k apart)
-        (λ x h. let r = images-cases f k x h in images-Contains (λ y. y) n x (subst (λ y. y < n) r.2 (within r.0 r.1))) in
+    length-le_from_members (images f k) (images (λ x. x) n) (images-AreDistinct f k apart)
+    (λ x h. let r = images-cases f k x h in images-Contains (λ y. y) n x (subst (λ y. y < n) r.2 (within r.0 r.1))) in
     omega (arith, images-length f k, images-length (λ x. x) n)
 
 -- some number below k has the image, or none has
@@ -75,10 +75,10 @@ onto f k within apart x l = ⊎_elim (λ r. r) (λ none. absurd (too_many none))
     too_many : ((c : ℕ) → c < k → f c ≢ x) → ⊥
     too_many none =
         let all : length (x ∷ images f k) ≤ length (images (λ y. y) k) =
-            length-le_from_members (x ∷ images f k) (images (λ y. y) k)
-            (AreDistinct-cons x (images f k) (λ there. let r = images-cases f k x there in none r.0 r.1 r.2) (images-AreDistinct f k apart))
-            (λ y h. images-Contains (λ z. z) k y (⊎_elim
-            (λ e. subst (λ z. z < k) e l)
-            (λ later. let r = images-cases f k y later in subst (λ z. z < k) r.2 (within r.0 r.1))
-            (Contains-cons_cases x (images f k) y h))) in
+        length-le_from_members (x ∷ images f k) (images (λ y. y) k)
+        (AreDistinct-cons x (images f k) (λ there. let r = images-cases f k x there in none r.0 r.1 r.2) (images-AreDistinct f k apart))
+        (λ y h. images-Contains (λ z. z) k y (⊎_elim
+        (λ e. subst (λ z. z < k) e l)
+        (λ later. let r = images-cases f k y later in subst (λ z. z < k) r.2 (within r.0 r.1))
+        (Contains-cons_cases x (images f k) y h))) in
         omega (arith, images-length f k, images-length (λ y. y) k)

@@ -8,7 +8,6 @@ use Rattle.lw_formula.specs.FiniteModel.{FiniteModel, Sees, HasFact}
 use Rattle.lw_formula.proofs.ListMembers.{Contains-nil}
 use Rattle.lw_model.specs.Edits.{AddsPair, AddsFact}
 use Rattle.lw_bisim.specs.Quotient.{place_of}
-use Rattle.lw_bisim.specs.Private.Classes.{HasClass}
 use Rattle.lw_bisim.specs.Private.Joined.{AddsSeen, AddsNames, IsJoinedTo}
 
 -- the members of a list with one more at its end

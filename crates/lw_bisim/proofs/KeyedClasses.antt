@@ -1,5 +1,5 @@
 -- Classes by a key of each world are the classes of a relation that the keys tell.
-use Rattle.std.proofs.Common.{◌≡◌, ℕ, ◌+◌, ◌<◌, Bool, true, IsTrue, List, [], ◌∷◌, ◌++◌, length, get_or, ◌↔◌, subst, sym, ◌∙◌, arith}
+use Rattle.std.proofs.Common.{◌≡◌, ℕ, ◌+◌, ◌<◌, Bool, true, List, [], ◌∷◌, ◌++◌, length, get_or, ◌↔◌, subst, sym, ◌∙◌, arith}
 use Rattle.std.proofs.lemmas.List.{length_push}
 use Rattle.lw_formula.specs.FiniteModel.{FiniteModel}
 use Rattle.lw_pool.proofs.WalkTables.{each_push}

@@ -1,7 +1,6 @@
 -- The least world of each class, and how many classes there are.
-use Rattle.std.proofs.Common.{◌≡◌, ◌≢◌, ℕ, ◌+◌, ◌<◌, ◌≤◌, zero, suc, Bool, true, false, cond, ◌==◌, List, length, ◌⊎◌, ◌↔◌, inl, inr, ⊎_elim, refl, ap, subst, sym, ◌∙◌, arith}
-use Rattle.std.specs.List.{All}
-use Rattle.std.proofs.lemmas.Bool.{cases_eq, cases_lt}
+use Rattle.std.proofs.Common.{◌≡◌, ℕ, ◌<◌, ◌≤◌, List, length, inl, inr, ap, subst, sym, ◌∙◌, arith}
+use Rattle.std.proofs.lemmas.Bool.{cases_lt}
 use Rattle.lw_bisim.specs.Quotient.{place_of, IsLeastOf, AreNumbered}
 use Rattle.lw_bisim.proofs.Injections.{TakesApart, le-from_injection, onto}
 

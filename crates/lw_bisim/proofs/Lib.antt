@@ -14,3 +14,5 @@ pub mod NumberedKeys
 pub mod SortedLists
 pub mod RoundKeys
 pub mod KeyedClasses
+pub mod NextRounds
+pub mod MadeQuotients

@@ -1,14 +1,14 @@
 -- Numbers for keys, in the order of the first of each.
-use Rattle.std.proofs.Common.{◌≡◌, ◌≢◌, ℕ, ◌+◌, ◌<◌, ◌≤◌, zero, suc, Bool, true, false, ◌||◌, cond, List, [], ◌∷◌, ◌++◌, length, get_or, slice_get, Some, ◌⊎◌, ◌↔◌, inl, inr, ⊎_elim, refl, ap, subst, sym, ◌∙◌, arith}
+use Rattle.std.proofs.Common.{◌≡◌, ℕ, ◌+◌, ◌<◌, zero, suc, Bool, true, false, ◌||◌, cond, List, [], ◌∷◌, ◌++◌, length, get_or, slice_get, Some, ◌⊎◌, inl, inr, ⊎_elim, refl, ap, subst, sym, ◌∙◌, arith}
 use Rattle.std.specs.Cmp.{IsEquivalence}
-use Rattle.std.specs.List.{All, list_any}
-use Rattle.std.proofs.lemmas.Bool.{cases_Bool, cases_eq, cases_lt, false≢true}
-use Rattle.std.proofs.lemmas.List.{get_or_append_left, get_or_push, length_push, get_or_default}
+use Rattle.std.specs.List.{list_any}
+use Rattle.std.proofs.lemmas.Bool.{cases_Bool, cases_lt, false≢true}
+use Rattle.std.proofs.lemmas.List.{get_or_append_left, get_or_push, length_push}
 use Rattle.std.proofs.lemmas.List.Elements.{All-push, All-weaker}
 use Rattle.std.proofs.lemmas.Option.{get_or_from_slice_get}
 use Rattle.indexmap.specs.IndexSet.{insert_key}
 use Rattle.lw_bisim.specs.Quotient.{place_of, IsLeastOf, AreNumbered}
-use Rattle.lw_bisim.specs.Private.Classes.{AreEqualAt, AreClassesBy}
+use Rattle.lw_bisim.specs.Private.Classes.{AreClassesBy}
 
 -- one more place behind the others changes no other
 place_before : (places : List ℕ) (p v : ℕ) → v < length places → place_of (places ++ p ∷ []) v ≡ place_of places v
@@ -193,9 +193,9 @@ module _ {K : Type 0} (eq : K → K → Bool) (laws : IsEquivalence eq) where
       (λ none.
       let more : new ≡ known ++ k ∷ [] = e ∙ ap (λ b. cond b known (known ++ k ∷ [])) none in
       let last : p ≡ length known = ⊎_elim
-          (λ b. absurd (unknown known k none p k b (subst (λ x. eq k x ≡ true) (key_before known k p k b) (subst (λ ks. eq k (get_or ks p k) ≡ true) more (at_place k)))))
-          (λ at. at)
-          (key_cases known k p (subst (λ ks. p < length ks) more l)) in
+      (λ b. absurd (unknown known k none p k b (subst (λ x. eq k x ≡ true) (key_before known k p k b) (subst (λ ks. eq k (get_or ks p k) ≡ true) more (at_place k)))))
+      (λ at. at)
+      (key_cases known k p (subst (λ ks. p < length ks) more l)) in
       subst (λ n. AreNumberedBy (keys ++ k ∷ []) new (places ++ n ∷ [])) (sym last)
       (subst (λ ks. AreNumberedBy (keys ++ k ∷ []) ks (places ++ length known ∷ [])) (sym more) (numbered_unknown keys known places k h none)))
       (cases_Bool (list_any (eq k) known))

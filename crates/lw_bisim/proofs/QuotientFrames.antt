@@ -1,14 +1,14 @@
 -- What the quotient of a model sees, and why it is of the logic's class where the model is.
-use Rattle.std.proofs.Common.{◌≡◌, ◌≢◌, ℕ, ◌<◌, List, length, ◌⊎◌, ◌↔◌, inl, inr, ⊎_elim, refl, ap, subst, sym, ◌∙◌, arith}
+use Rattle.std.proofs.Common.{◌≡◌, ◌≢◌, ℕ, ◌<◌, length, ◌↔◌, ⊎_elim, refl, ap, subst, sym, ◌∙◌, arith}
 use Rattle.std.proofs.lemmas.Bool.{cases_eq}
 use Rattle.lw_formula.specs.declared.logic.Logic.{Logic}
 use Rattle.lw_formula.specs.declared.logic.Logic.TheVariants.{K, KT, S4, S5, GL, Grz}
 use Rattle.lw_formula.specs.FiniteModel.{FiniteModel, IsWellFormed, Sees, HasFact}
 use Rattle.lw_formula.specs.Class.{Class, HasFrame, IsReflexive, IsIrreflexive, IsTransitive, IsSymmetric, IsAntisymmetric}
-use Rattle.lw_bisim.specs.Bisimulation.{IsBisimulation, AreBisimilar}
-use Rattle.lw_bisim.specs.Quotient.{Quotient, IsQuotient, IsLeastOf, place_of}
+use Rattle.lw_bisim.specs.Bisimulation.{IsBisimulation}
+use Rattle.lw_bisim.specs.Quotient.{Quotient, IsQuotient, place_of}
 use Rattle.lw_bisim.proofs.StillRounds.{seen_within}
-use Rattle.lw_bisim.proofs.StrictClimbs.{IsInherited, climb}
+use Rattle.lw_bisim.proofs.StrictClimbs.{climb}
 use Rattle.lw_bisim.proofs.TruthKept.{GoesForthAndBack}
 
 module _ (m : FiniteModel) (q : Quotient) (ok : IsWellFormed m) (h : IsQuotient m q) where
@@ -90,6 +90,7 @@ module _ (m : FiniteModel) (q : Quotient) (ok : IsWellFormed m) (h : IsQuotient 
       next a b apart seen w later at =
           let u = seen_from w a b at seen in
           later u.0 u.1 (λ e. apart (sym at.1 ∙ ap (place_of q.places) e ∙ u.2.1)) u.2
+
       endless : c ≢ d → ⊥
       endless apart =
           let v = of_seeing c d there in

@@ -1,5 +1,5 @@
 -- The keys by which worlds are put into classes in each round.
-use Rattle.std.proofs.Common.{◌≡◌, ℕ, ◌<◌, zero, suc, Bool, true, ◌==◌, ◌&&◌, eqb, Bor, List, length, ◌↔◌, All, refl, ap, subst, sym, ◌∙◌, arith}
+use Rattle.std.proofs.Common.{◌≡◌, ℕ, ◌<◌, zero, suc, Bool, true, ◌==◌, ◌&&◌, eqb, Bor, List, ◌↔◌, All, refl, subst, sym, ◌∙◌}
 use Rattle.std.specs.Bool.{Decides}
 use Rattle.std.specs.Ordering.{nat_cmp}
 use Rattle.std.specs.Cmp.{nat_cmp_total}

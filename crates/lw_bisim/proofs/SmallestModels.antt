@@ -1,12 +1,10 @@
 -- The laws of quotients: truth is kept, worlds differ, and no model with the same truths is smaller.
-use Rattle.std.proofs.Common.{◌≡◌, ◌≢◌, ℕ, ◌<◌, ◌≤◌, List, length, ◌⊎◌, ◌↔◌, inl, inr, ⊎_elim, refl, ap, subst, sym, ◌∙◌, arith}
+use Rattle.std.proofs.Common.{◌≡◌, ◌≢◌, ℕ, ◌<◌, length, ⊎_elim, refl, subst, sym, ◌∙◌, arith}
 use Rattle.std.proofs.lemmas.Bool.{cases_eq}
-use Rattle.lw_formula.specs.Formula.{Formula}
 use Rattle.lw_formula.specs.FiniteModel.{FiniteModel, IsWellFormed}
 use Rattle.lw_formula.specs.Truth.{IsTrueAt}
-use Rattle.lw_bisim.specs.Bisimulation.{AreBisimilar}
 use Rattle.lw_bisim.specs.Quotient.{Quotient, IsQuotient, place_of}
-use Rattle.lw_bisim.specs.Laws.{QuotientKeepsTruth, QuotientKeepsClass, QuotientWorldsDiffer, QuotientIsSmallest, Tells, KeepsTruth}
+use Rattle.lw_bisim.specs.Laws.{QuotientKeepsTruth, QuotientKeepsClass, QuotientWorldsDiffer, QuotientIsSmallest}
 use Rattle.lw_bisim.proofs.TruthKept.{same_truth}
 use Rattle.lw_bisim.proofs.TellingFormulas.{Differ}
 use Rattle.lw_bisim.proofs.StillRounds.{bisimilar_or_differ}
@@ -33,7 +31,7 @@ worlds_differ m q ok h c d l k apart =
       a.0,
       (
         (same_truth a.0 m q.model (IsOf m q ok h) related v.0 c v.1).0 a.1.0,
-        λ t. a.1.1 ((same_truth a.0 m q.model (IsOf m q ok h) related u.0 d u.1).1 t)
+        λ t. a.1.1 ((same_truth a.0 m q.model (IsOf m q ok h) related u.0 d u.1).1 t),
       ),
     )
 
@@ -45,13 +43,16 @@ quotient_smallest m n q map ok h keeps =
   where
     world : ℕ → ℕ
     world c = least q.places q.model.worlds h.numbered c
+
     within : (c : ℕ) → c < q.model.worlds → world c < m.worlds
     within c l =
         let w : world c < length q.places = (least-IsLeastOf q.places q.model.worlds h.numbered c l).within in
         let e : length q.places ≡ m.worlds = h.placed in
         omega arith
+
     place : (c : ℕ) → c < q.model.worlds → place_of q.places (world c) ≡ c
     place c l = (least-IsLeastOf q.places q.model.worlds h.numbered c l).place
+
     told : (c d : ℕ) → c < q.model.worlds → d < q.model.worlds → map (world c) ≡ map (world d) → c ≢ d → ⊥
     told c d l k e apart =
         let a = classes_differ m q ok h (world c) (world d) (within c l) (within d k) (λ s. apart (sym (place c l) ∙ s ∙ place d k)) in

@@ -1,7 +1,6 @@
 -- A round after which no class splits: worlds that are alike then are bisimilar.
-use Rattle.std.proofs.Common.{◌≡◌, ℕ, ◌<◌, ◌≤◌, zero, suc, Bool, true, false, ◌==◌, List, length, ◌⊎◌, ◌↔◌, inl, inr, refl, ap, subst, arith}
-use Rattle.std.specs.Bool.{Decides}
-use Rattle.std.specs.List.{Contains, All, filter}
+use Rattle.std.proofs.Common.{◌≡◌, ℕ, ◌<◌, zero, suc, Bool, true, false, List, length, ◌⊎◌, inl, inr, refl, arith}
+use Rattle.std.specs.List.{Contains, filter}
 use Rattle.lw_formula.specs.FiniteModel.{FiniteModel, IsWellFormed, Sees}
 use Rattle.lw_formula.proofs.ListMembers.{All-members, Contains-filter, Contains-filter_cases}
 use Rattle.std.proofs.lemmas.List.Elements.{All-contains}

@@ -2,7 +2,7 @@
 use Rattle.std.proofs.Common.{◌≡◌, ℕ, zero, suc, Bool, true, false, ◌==◌, ◌&&◌, ◌||◌, not, List, [], ◌∷◌, ◌⊎◌, inl, inr, ⊎_elim, refl, ap, subst, sym, ◌∙◌}
 use Rattle.std.proofs.lemmas.Bool.{false≢true}
 use Rattle.std.specs.Bool.{Decides}
-use Rattle.std.specs.List.{Contains, list_all, list_any}
+use Rattle.std.specs.List.{Contains, list_all}
 use Rattle.std.proofs.lemmas.Bool.Decides.{Decides-eqb}
 use Rattle.lw_formula.specs.Formula.{Formula, letter, verum, neg, conj, poss}
 use Rattle.lw_formula.specs.FiniteModel.{FiniteModel}
@@ -50,7 +50,7 @@ letters_differ m v u e =
       letter f.0.1,
       (
         subst (λ w. Contains m.facts (w, f.0.1)) ((Decides-eqb f.0.0 v).0 b.0) f.1,
-        is_false (has_fact m.facts u f.0.1) (has_fact-Contains m.facts u f.0.1) b.1
+        is_false (has_fact m.facts u f.0.1) (has_fact-Contains m.facts u f.0.1) b.1,
       ),
     )
 
@@ -71,7 +71,7 @@ fails_at_seen m test apart u w (q ∷ qs) e =
         λ x h. ⊎_elim
             (λ same. absurd (is_false (q.0 == u) (Decides-eqb q.0 u) other (ap (λ r. r.0) same)))
             (λ later. rest.1.1 x later)
-            (Contains-cons_cases q qs (u, x) h)
+            (Contains-cons_cases q qs (u, x) h),
       ),
     ))
     (λ unlike. let d = apart w q.1 unlike in (
@@ -81,7 +81,7 @@ fails_at_seen m test apart u w (q ∷ qs) e =
         λ x h t. ⊎_elim
             (λ same. d.1.1 (subst (λ y. IsTrueAt m y d.0) (sym (ap (λ r. r.1) same)) t.0))
             (λ later. rest.1.1 x later t.1)
-            (Contains-cons_cases q qs (u, x) h)
+            (Contains-cons_cases q qs (u, x) h),
       ),
     ))
     (and_false (q.0 == u) (test w q.1) b.0)
@@ -94,7 +94,7 @@ steps_differ m test apart v u e =
       poss a.0,
       (
         (p.0.1, subst (λ w. Contains m.pairs (w, p.0.1)) ((Decides-eqb p.0.0 v).0 b.0) p.1, a.1.0),
-        λ some. a.1.1 some.0 some.1 some.2
+        λ some. a.1.1 some.0 some.1 some.2,
       ),
     )
 

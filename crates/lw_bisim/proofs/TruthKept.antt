@@ -1,5 +1,5 @@
 -- Truth is the same at related worlds of two models, where the relation keeps letters and goes forth and back.
-use Rattle.std.proofs.Common.{ℕ, List, ◌⊎◌, ◌↔◌, inl, inr, ⊎_elim}
+use Rattle.std.proofs.Common.{ℕ, List, ◌↔◌, inl, inr, ⊎_elim}
 use Rattle.lw_formula.specs.Formula.{Formula, letter, falsum, verum, neg, conj, disj, impl, equi, nec, poss}
 use Rattle.lw_formula.specs.FiniteModel.{FiniteModel, Sees, HasFact}
 use Rattle.lw_formula.specs.Truth.{IsTrueAt}

@@ -1,6 +1,7 @@
 ghost use Rattle.std.specs.Prelude.{◌≡◌, ℕ, suc, ◌<◌, ◌↔◌, All, Contains, IfOk, length};
 ghost use Rattle.std.specs.Ordering.{nat_cmp};
 ghost use Rattle.std.specs.List.Sorted.{IsStrictlySortedBy};
+ghost use Rattle.lw_formula.specs.FiniteModel.{IsWellFormed};
 ghost use Rattle.lw_bisim.specs.Bisimulation.{AreBisimilar};
 ghost use Rattle.lw_bisim.specs.Private.Classes.{HasClass};
 ghost use Rattle.lw_bisim.specs.Private.Rounds.{AreAlike, AreClassesOf};
@@ -13,7 +14,8 @@ use std::alloc::{AllocError, Global};
 /// splits. It fails for want of memory alone. There are at most as many rounds as worlds, and each round looks at each pair
 /// once and sorts the classes that each world sees.
 pub(crate) fn bisimilar_classes(alloc: Global, model: &Model) -> Result<Classes, AllocError>
-    ensures { IfOk result (λ classes. AreClassesOf model.now (AreBisimilar model.now) classes.places.items classes.count) }
+    ensures well_formed { IfOk result (λ _. IsWellFormed model.now) }
+    ensures classes { IfOk result (λ classes. AreClassesOf model.now (AreBisimilar model.now) classes.places.items classes.count) }
 {
     let mut classes = by_letters(alloc, model)?;
     loop {
@@ -27,7 +29,8 @@ pub(crate) fn bisimilar_classes(alloc: Global, model: &Model) -> Result<Classes,
 
 // The classes of worlds with the same variables.
 fn by_letters(alloc: Global, model: &Model) -> Result<Classes, AllocError>
-    ensures { IfOk result (λ classes. AreClassesOf model.now (AreAlike model.now 0) classes.places.items classes.count) }
+    ensures well_formed { IsWellFormed model.now }
+    ensures classes { IfOk result (λ classes. AreClassesOf model.now (AreAlike model.now 0) classes.places.items classes.count) }
 {
     let mut keys = Vec::with_capacity(alloc, model.worlds())?;
     for world in 0..model.worlds() {

@@ -1,7 +1,7 @@
 -- Worlds that are alike up to a number of steps (Blackburn, de Rijke and Venema, Modal Logic, section 2.3).
 use Rattle.std.specs.Prelude.{◌≡◌, ℕ, zero, suc, ◌<◌, ◌↔◌, List, length}
 use Rattle.lw_formula.specs.FiniteModel.{FiniteModel, Sees}
-use Rattle.lw_bisim.specs.Bisimulation.{HaveSameLetters, AreBisimilar}
+use Rattle.lw_bisim.specs.Bisimulation.{HaveSameLetters}
 use Rattle.lw_bisim.specs.Quotient.{place_of, AreNumbered}
 
 -- what v sees is related to something that u sees

@@ -1,6 +1,6 @@
 use Rattle.std.proofs.Common.{ap, length, sym, ◌∙◌, arith, subst}
 use Rattle.std.proofs.lemmas.List.{get_or_read}
-use Rattle.lw_bisim.specs.Private.Joined.{AddsSeen, AddsNames}
+use Rattle.lw_bisim.specs.Private.Joined.{AddsSeen}
 use Rattle.lw_bisim.proofs.RoundKeys.{seen_placed}
 use Rattle.lw_bisim.proofs.JoinedClasses.{joined_more}
 use Rattle.lw_bisim.proofs.joined.joined.Goals as goal

@@ -1,7 +1,5 @@
-use Rattle.std.proofs.Common.{◌≡◌, ℕ, ◌<◌, List, Bor, length, get_or, sym, ap, subst, ◌∙◌, arith}
-use Rattle.std.specs.Bool.{Decides}
-use Rattle.std.specs.Cmp.Lexicographic.{pointwise, pointwise_decides}
-use Rattle.std.specs.Str.{bytes_eq}
+use Rattle.std.proofs.Common.{◌≡◌, length, get_or, sym, ap, subst, ◌∙◌, arith}
+use Rattle.std.specs.Cmp.Lexicographic.{pointwise_decides}
 use Rattle.std.proofs.lemmas.List.{length_push}
 use Rattle.std.proofs.lemmas.Result.{IfOk-weaker}
 use Rattle.std.proofs.lemmas.Slice.Eq.{bytes_eq-Decides}
@@ -20,8 +18,8 @@ loop-world-preserved c = record {
       (record { exact = c.names.ensures.exact; ordered = c.names.ensures.ordered }) i d l);
 }
 
-pub returns : goal.returns
-returns c =
+pub returns-clause-classes : goal.returns-clause-classes
+returns-clause-classes c =
     let m = c.args.model.now in
     let keys = c.loop-world.keys.items in
     let all : c.loop-world.world ≡ m.worlds = omega (arith, c.loop-world.invariant.end, c.loop-world-test.false, c.loop-world.auto.world-end) in

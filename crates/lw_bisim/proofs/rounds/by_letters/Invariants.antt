@@ -1,5 +1,4 @@
 use Rattle.std.proofs.Common.{◌≡◌, ℕ, ◌<◌, length, get_or, Bor, List}
-use Rattle.lw_formula.specs.FiniteModel.{IsWellFormed}
 use Rattle.lw_bisim.proofs.RoundKeys.{AreLettersOf}
 use Rattle.lw_bisim.proofs.rounds.by_letters.Given as goal
 

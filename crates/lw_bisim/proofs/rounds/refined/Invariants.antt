@@ -1,4 +1,4 @@
-use Rattle.std.proofs.Common.{◌≡◌, ℕ, ◌<◌, length, get_or, List}
+use Rattle.std.proofs.Common.{◌≡◌, ℕ, ◌<◌, length, get_or}
 use Rattle.lw_formula.specs.FiniteModel.{IsWellFormed}
 use Rattle.lw_bisim.specs.Quotient.{place_of}
 use Rattle.lw_bisim.proofs.RoundKeys.{AreClassesSeen}
