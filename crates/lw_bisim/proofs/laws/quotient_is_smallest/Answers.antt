@@ -1,0 +1,5 @@
+use Rattle.lw_bisim.proofs.SmallestModels.{quotient_smallest}
+use Rattle.lw_bisim.proofs.laws.quotient_is_smallest.Goals as goal
+
+pub returns : goal.returns
+returns c = quotient_smallest

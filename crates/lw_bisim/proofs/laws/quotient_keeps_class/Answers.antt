@@ -1,0 +1,5 @@
+use Rattle.lw_bisim.proofs.SmallestModels.{class_kept_by_quotient}
+use Rattle.lw_bisim.proofs.laws.quotient_keeps_class.Goals as goal
+
+pub returns : goal.returns
+returns c = class_kept_by_quotient

@@ -1,0 +1,38 @@
+-- Laws of quotients, each a fact that stands by itself.
+use Rattle.std.specs.Prelude.{◌≢◌, ℕ, ◌<◌, ◌≤◌, ◌↔◌}
+use Rattle.lw_formula.specs.declared.logic.Logic.{Logic}
+use Rattle.lw_formula.specs.Formula.{Formula}
+use Rattle.lw_formula.specs.FiniteModel.{FiniteModel, IsWellFormed}
+use Rattle.lw_formula.specs.Class.{Class}
+use Rattle.lw_formula.specs.Truth.{IsTrueAt}
+use Rattle.lw_bisim.specs.Quotient.{Quotient, IsQuotient, place_of}
+
+-- a formula is true at a world exactly where it is true at its class
+abbrev pub QuotientKeepsTruth : Type 0
+QuotientKeepsTruth =
+    (m : FiniteModel) (q : Quotient) → IsWellFormed m → IsQuotient m q → (v : ℕ) → v < m.worlds → (a : Formula) →
+    IsTrueAt m v a ↔ IsTrueAt q.model (place_of q.places v) a
+
+-- the quotient of a model of a logic's class is of the logic's class
+abbrev pub QuotientKeepsClass : Type 0
+QuotientKeepsClass = (logic : Logic) (m : FiniteModel) (q : Quotient) → IsQuotient m q → Class logic m → Class logic q.model
+
+-- the formula is true at w and false at v
+abbrev pub Tells : FiniteModel → Formula → ℕ → ℕ → Type 0
+Tells m a w v = IsTrueAt m w a × (¬ IsTrueAt m v a)
+
+-- of two worlds of the quotient some formula is true at the first alone
+abbrev pub QuotientWorldsDiffer : Type 0
+QuotientWorldsDiffer =
+    (m : FiniteModel) (q : Quotient) → IsWellFormed m → IsQuotient m q → (c d : ℕ) → c < q.model.worlds → d < q.model.worlds → c ≢ d →
+    (a : Formula) × Tells q.model a c d
+
+-- the map takes each world of the first model to a world of the second at which the same formulas are true
+pub record KeepsTruth (m n : FiniteModel) (map : ℕ → ℕ) : Type 0 where
+  pub within : (v : ℕ) → v < m.worlds → map v < n.worlds
+  pub truth : (v : ℕ) (a : Formula) → v < m.worlds → IsTrueAt m v a ↔ IsTrueAt n (map v) a
+
+-- no model that such a map leads to has fewer worlds than the quotient
+abbrev pub QuotientIsSmallest : Type 0
+QuotientIsSmallest =
+    (m n : FiniteModel) (q : Quotient) (map : ℕ → ℕ) → IsWellFormed m → IsQuotient m q → KeepsTruth m n map → q.model.worlds ≤ n.worlds

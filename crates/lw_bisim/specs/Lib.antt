@@ -1,0 +1,4 @@
+pub mod Bisimulation
+pub mod Quotient
+pub mod Laws
+pub mod Private

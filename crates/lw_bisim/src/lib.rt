@@ -1,0 +1,13 @@
+//! The quotient of a finite model by its largest bisimulation.
+#![tactic(auto)]
+
+mod classes;
+mod joined;
+mod laws;
+mod quotient;
+mod rounds;
+
+pub use laws::{
+    quotient_is_smallest, quotient_keeps_class, quotient_keeps_truth, quotient_worlds_differ,
+};
+pub use quotient::{Quotient, smallest};
