@@ -9,7 +9,7 @@ use Rattle.lw_ast.specs.declared.operator.Link.TheVariants as link
 use Rattle.lw_ast.specs.declared.operator.Relation.{Relation}
 use Rattle.lw_ast.specs.declared.operator.Relation.TheVariants.{Equal, Unequal, Less, AtMost}
 use Rattle.lw_ast.specs.declared.function.Function.{Function}
-use Rattle.lw_ast.specs.declared.function.Function.TheVariants.{Provable, Certificate, Interpolate, Fixpoint, Nnf, Simplify, Goedel, Boxdot, Substitute, Vars, Depth, Count, Length, Item, Append}
+use Rattle.lw_ast.specs.declared.function.Function.TheVariants.{Provable, Certificate, Interpolate, Fixpoint, Nnf, Simplify, Goedel, Boxdot, Substitute, Vars, Depth, Count, Length, Item, Append, Smallest, Trace, Letterless}
 use Rattle.lw_ast.specs.Trees as tree
 use Rattle.lw_ast.specs.Trees.{Expression, Expressions, Operands}
 use Rattle.lw_value.specs.Values.{Val, Vals, vals, formula, truth, number, text, items, logic, certificate, naught, empty, item, weight}
@@ -18,9 +18,11 @@ use Rattle.lw_value.specs.Assignments.{value_at, put}
 use Rattle.lw_value.proofs.VariablesSeen.{value_at_evidence, put_evidence}
 use Rattle.lw_eval.specs.declared.trouble.Trouble.{Trouble}
 use Rattle.lw_eval.specs.Evaluations.{Evaluation, Got, Fails, Is, Given, Bind, Tells, holds, fails_to}
-use Rattle.lw_eval.specs.Operands.{formula_in, formulas_in, numbers_in, list_in, logic_and_formula, logic_and_formulas, variable_and_formula, formula_variable_formula, list_and_number, list_and_value, one, two, three}
+use Rattle.lw_eval.specs.Operands.{formula_in, formulas_in, numbers_in, list_in, certificate_in, logic_and_formula, logic_and_formulas, variable_and_formula, formula_variable_formula, list_and_number, list_and_value, one, two, three}
 use Rattle.lw_eval.specs.Operators.{bound, in_range, calculated, plain, Compares, Tests, Truth, Both, Either, list_of}
-use Rattle.lw_eval.specs.Calls.{Decided, decided, Certifies, by_proof, by_model, Interpolates, between, none, Supported, supported, Fixes, fixed, Translates, translated, Lists, lists, item_at, with_last, Calls}
+use Rattle.lw_trace.specs.LetterlessTruth.{trace_of}
+use Rattle.lw_eval.proofs.ShrunkEvidence.{smallest_evident}
+use Rattle.lw_eval.specs.Calls.{Decided, decided, Traced, traced, trace_values, Certifies, by_proof, by_model, Interpolates, between, none, Supported, supported, Fixes, fixed, Translates, translated, Lists, lists, item_at, with_last, Calls}
 use Rattle.lw_eval.specs.Expressions.{Variables, Eval, Chain, Evals}
 use Rattle.lw_eval.specs.Runs.{Act, End, Nothing, Then, Step, With, Assigns, Prints, Turns, Repeats, numbers_from, ListOf, Condition, Choice, Does, DoesStep, Run}
 use Rattle.lw_eval.specs.Private.Carried.{HaveItemsEvidence}
@@ -125,6 +127,22 @@ two_evident kinds second (item x empty) v each have is = no_value v _ is
 two_evident kinds second (item x (item y empty)) v each have is = each x y have.0 have.1.0 is
 two_evident kinds second (item x (item y (item z ws))) v each have is = no_value v _ is
 
+one_evident : {A : Type 0} (kind : Val Formula → Evaluation A) (second : A → Evaluation (Val Formula) → Type 0) (vs : Vals Formula) (v : Val Formula)
+    → ((x : Val Formula) → HasEvidence x → Given (kind x) second (Got v) → HasEvidence v) → HaveItemsEvidence vs → Given (one kind vs) second (Got v) → HasEvidence v
+one_evident kind second empty v each have is = no_value v _ is
+one_evident kind second (item x empty) v each have is = each x have.0 is
+one_evident kind second (item x (item y ws)) v each have is = no_value v _ is
+
+traced_evident : (a : Formula) (answer : Evaluation (Val Formula) → Type 0) (v : Val Formula) → ((u : Val Formula) → answer (Got u) → HasEvidence u) → Traced a (Decided a answer) (Got v) → HasEvidence v
+traced_evident a answer v each (traced _ (decided _ is)) = each v is
+
+numbers_evident : (ns : List ℕ) → HaveItemsEvidence (vals (map number ns))
+numbers_evident [] = tt
+numbers_evident (n ∷ ns) = (tt, numbers_evident ns)
+
+trace_evident : (a : Formula) → HaveItemsEvidence (vals (trace_values a))
+trace_evident a = (tt, numbers_evident (trace_of a).heights)
+
 provable_evident : (a : Formula) (P : Type 0) (v : Val Formula) → Decided a (Tells P) (Got v) → HasEvidence v
 provable_evident a P _ (decided _ (holds _)) = tt
 provable_evident a P _ (decided _ (fails_to _)) = tt
@@ -163,6 +181,9 @@ call_evident Count vs v have is = given_evident (one formula_in vs) _ v (λ a h.
 call_evident Length vs v have is = given_evident (one list_in vs) _ v (λ xs h. is_evident v _ h tt) is
 call_evident Item vs v have is = two_evident list_and_number _ vs v (λ x y hx hy h. item_of_evident x y v hx h) have is
 call_evident Append vs v have is = two_evident list_and_value _ vs v (λ x y hx hy h. append_evident x y v hx hy h) have is
+call_evident Smallest vs v have is = one_evident certificate_in _ vs v (λ x hx h. smallest_evident x v hx h) have is
+call_evident Trace vs v have is = given_evident (one formula_in vs) _ v (λ a h. traced_evident a _ v (λ u k. list_evident (vals (trace_values a)) u (trace_evident a) k) h) is
+call_evident Letterless vs v have is = given_evident (one formula_in vs) _ v (λ a h. traced_evident a _ v (λ u k. is_evident u _ k tt) h) is
 
 -- the value of an expression has evidence where the variables have it
 mutual

@@ -12,7 +12,9 @@ pub mod OneValue
 pub mod OutputAdded
 pub mod RunsCarried
 pub mod RunsFollowed
+pub mod ShrunkEvidence
 pub mod StatementsSeen
+pub mod TracesGiven
 pub mod TroublesAtLines
 pub mod TurnsLeft
 pub mod VariablesBound

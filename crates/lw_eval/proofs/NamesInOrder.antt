@@ -6,6 +6,7 @@ use Rattle.std.specs.Cmp.Lexicographic.{slice_cmp}
 use Rattle.std.specs.declared.cmp.Ordering.TheVariants.{Less}
 use Rattle.lw_formula.specs.Formula.{Formula}
 use Rattle.lw_formula.specs.Variables.{AreVariables}
+use Rattle.lw_trace.specs.TraceFaults.{IsFirstVariable}
 use Rattle.lw_formula.proofs.ByteOrder.{slice_cmp-Greater}
 use Rattle.lw_formula.proofs.ListMembers.{Contains-nil, Contains-head, Contains-tail, Contains-cons_cases}
 
@@ -43,3 +44,12 @@ pub one_list_of_variables : (a : Formula) (names others : List (List ℕ)) → A
 one_list_of_variables a names others h k =
     told_by_members (λ p q. slice_cmp nat_cmp p q ≡ Less) not_both_before names others h.ordered k.ordered
     (λ p m. (k.variables p).1 ((h.variables p).0 m)) (λ p m. (h.variables p).1 ((k.variables p).0 m))
+
+-- two names of which each is the formula's first variable are the same
+pub one_first_variable : (a : Formula) (p q : List ℕ) → IsFirstVariable p a → IsFirstVariable q a → p ≡ q
+one_first_variable a p q first second = by (first.first q second.occurs) (second.first p first.occurs)
+  where
+    by : (q ≡ p) ⊎ (slice_cmp nat_cmp p q ≡ Less) → (p ≡ q) ⊎ (slice_cmp nat_cmp q p ≡ Less) → p ≡ q
+    by (inl same) other = sym same
+    by (inr before) (inl same) = same
+    by (inr before) (inr behind) = absurd (not_both_before p q before behind)

@@ -13,7 +13,7 @@ use Rattle.lw_trans.specs.declared.connective.Connective.TheVariants as connecti
 use Rattle.lw_trans.specs.Connectives.{naming_place}
 use Rattle.lw_trans.specs.Translations.{boxdot}
 use Rattle.lw_ast.specs.declared.function.Function.{Function}
-use Rattle.lw_ast.specs.declared.function.Function.TheVariants.{Provable, Certificate, Interpolate, Fixpoint, Nnf, Simplify, Goedel, Boxdot, Substitute, Vars, Depth, Count, Length, Item, Append}
+use Rattle.lw_ast.specs.declared.function.Function.TheVariants.{Provable, Certificate, Interpolate, Fixpoint, Nnf, Simplify, Goedel, Boxdot, Substitute, Vars, Depth, Count, Length, Item, Append, Smallest, Trace, Letterless}
 use Rattle.lw_ast.specs.declared.operator.Link.TheVariants as link
 use Rattle.lw_ast.specs.declared.operator.Relation.{Relation}
 use Rattle.lw_ast.specs.declared.operator.Relation.TheVariants.{Equal, Unequal, Less, AtMost}
@@ -23,14 +23,15 @@ use Rattle.lw_value.specs.Values.{Val, Vals, formula, truth, number, text, logic
 use Rattle.lw_value.specs.Assignments.{value_at}
 use Rattle.lw_value.specs.ValueTexts.{count_of}
 use Rattle.lw_eval.specs.declared.trouble.Trouble.{Trouble}
-use Rattle.lw_eval.specs.declared.trouble.Trouble.TheVariants.{NotIntuitionistic}
+use Rattle.lw_eval.specs.declared.trouble.Trouble.TheVariants.{NotIntuitionistic, NotLetterless}
 use Rattle.lw_eval.specs.Evaluations.{Evaluation, Got, Fails, Is, Given, Bind, Pair, Tells}
 use Rattle.lw_eval.specs.Operands.{formula_in, formulas_in, numbers_in, truth_in, list_in, logic_and_formula, variable_and_formula, formula_variable_formula, list_and_number, list_and_value, one, two, three}
 use Rattle.lw_eval.specs.Operators.{bound, prefixed_by, Prefixes, Joins, calculated, Calculates, Compared, Compares, Tests, Truth, Denies, Both, Either, list_of}
-use Rattle.lw_eval.specs.Calls.{Decided, Fixes, Translates, letters_of, Lists, item_at, with_last, Calls}
+use Rattle.lw_trace.specs.LetterlessForm.{letterless_of}
+use Rattle.lw_eval.specs.Calls.{Decided, Traced, trace_values, Fixes, Translates, letters_of, Lists, item_at, with_last, Calls}
 use Rattle.lw_eval.specs.Expressions.{Variables, Eval, Chain, Evals}
 use Rattle.lw_eval.specs.Plain.{GivesOne, IsPlain, ArePlain, AreOperandsPlain}
-use Rattle.lw_eval.proofs.NamesInOrder.{one_list_of_variables}
+use Rattle.lw_eval.proofs.NamesInOrder.{one_list_of_variables, one_first_variable}
 
 -- no two values, no two troubles, and no value beside a trouble
 abbrev pub IsOne : {A : Type 0} → (Evaluation A → Type 0) → Type 0
@@ -142,6 +143,12 @@ one_lists : (a : Formula) → IsOne (Lists a)
 one_lists a r s (Lists.lists names h l) (Lists.lists others k m) =
     l ∙ ap (λ ps. list_of (vals (letters_of ps))) (one_list_of_variables a names others h k) ∙ sym m
 
+one_traced : (a : Formula) (answer : Evaluation (Val Formula) → Type 0) → IsOne answer → IsOne (Traced a answer)
+one_traced a answer sole r s (Traced.traced h k) (Traced.traced l m) = sole r s k m
+one_traced a answer sole r s (Traced.traced h k) (Traced.lettered p first) = absurd (h p first.occurs)
+one_traced a answer sole r s (Traced.lettered p first) (Traced.traced l m) = absurd (l p first.occurs)
+one_traced a answer sole r s (Traced.lettered p first) (Traced.lettered q second) = ap (λ x. Fails (NotLetterless x)) (one_first_variable a p q first second)
+
 one_call : (f : Function) (vs : Vals Formula) → GivesOne f → IsOne (Calls f vs)
 one_call Provable vs gives = one_given (two logic_and_formula vs) _ (λ x. one_decided x.1 _ (one_tells (Valid x.0 x.1)))
 one_call Certificate vs gives = absurd gives
@@ -158,6 +165,9 @@ one_call Count vs gives = one_given (one formula_in vs) _ (λ a. one_is (Got (nu
 one_call Length vs gives = one_given (one list_in vs) _ (λ xs. one_is (Got (number (count_of xs))))
 one_call Item vs gives = one_given (two list_and_number vs) _ (λ x. one_is (item_at x.0 x.1))
 one_call Append vs gives = one_given (two list_and_value vs) _ (λ x. one_is (list_of (with_last x.0 x.1)))
+one_call Smallest vs gives = absurd gives
+one_call Trace vs gives = one_given (one formula_in vs) _ (λ a. one_traced a _ (one_decided a _ (one_is (list_of (vals (trace_values a))))))
+one_call Letterless vs gives = one_given (one formula_in vs) _ (λ a. one_traced a _ (one_decided a _ (one_is (Got (formula (letterless_of a))))))
 
 mutual
   pub one_value : (env : Variables) (a : Expression) → IsPlain a → IsOne (Eval env a)

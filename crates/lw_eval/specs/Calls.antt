@@ -1,5 +1,5 @@
 -- What functions give for their arguments: one row each.
-use Rattle.std.specs.Prelude.{◌≡◌, ℕ, zero, suc, ◌<◌, ◌≤◌, List, length, map, true, false}
+use Rattle.std.specs.Prelude.{◌≡◌, ℕ, zero, suc, ◌<◌, ◌≤◌, List, ◌∷◌, length, map, true, false}
 use Rattle.lw_formula.specs.declared.logic.Logic.{Logic}
 use Rattle.lw_formula.specs.Formula.{Formula, letter, impl, depth, nodes, subformula_count}
 use Rattle.lw_formula.specs.FiniteModel.{FiniteModel}
@@ -20,13 +20,17 @@ use Rattle.lw_normal.specs.Simplification.{simplify}
 use Rattle.lw_trans.specs.declared.connective.Connective.{Connective}
 use Rattle.lw_trans.specs.Connectives.{IsIntuitionistic, IsFirst}
 use Rattle.lw_trans.specs.Translations.{goedel, boxdot}
+use Rattle.lw_bisim.specs.Quotient.{Quotient, IsQuotient, place_of}
+use Rattle.lw_trace.specs.LetterlessTruth.{IsLetterless, trace_of}
+use Rattle.lw_trace.specs.LetterlessForm.{letterless_of}
+use Rattle.lw_trace.specs.TraceFaults.{IsFirstVariable}
 use Rattle.lw_ast.specs.declared.function.Function.{Function}
-use Rattle.lw_ast.specs.declared.function.Function.TheVariants.{Provable, Certificate, Interpolate, Fixpoint, Nnf, Simplify, Goedel, Boxdot, Substitute, Vars, Depth, Count, Length, Item, Append}
-use Rattle.lw_value.specs.Values.{proved, refuted, Val, Vals, formula, number, certificate, naught, empty, item, vals}
+use Rattle.lw_ast.specs.declared.function.Function.TheVariants.{Provable, Certificate, Interpolate, Fixpoint, Nnf, Simplify, Goedel, Boxdot, Substitute, Vars, Depth, Count, Length, Item, Append, Smallest, Trace, Letterless}
+use Rattle.lw_value.specs.Values.{Evidence, proved, refuted, Val, Vals, formula, truth, number, certificate, naught, empty, item, vals}
 use Rattle.lw_value.specs.ValueTexts.{count_of}
-use Rattle.lw_eval.specs.declared.trouble.Trouble.TheVariants.{Range, TooLarge, NoInterpolants, NotModalised, TooManyBoxes, NotIntuitionistic}
+use Rattle.lw_eval.specs.declared.trouble.Trouble.TheVariants.{Range, TooLarge, NoInterpolants, NotModalised, TooManyBoxes, NotIntuitionistic, NotLetterless}
 use Rattle.lw_eval.specs.Evaluations.{Evaluation, Got, Fails, Is, Given, Tells}
-use Rattle.lw_eval.specs.Operands.{formula_in, list_in, logic_and_formula, logic_and_formulas, variable_and_formula, formula_variable_formula, list_and_number, list_and_value, one, two, three}
+use Rattle.lw_eval.specs.Operands.{formula_in, list_in, certificate_in, logic_and_formula, logic_and_formulas, variable_and_formula, formula_variable_formula, list_and_number, list_and_value, one, two, three}
 use Rattle.lw_eval.specs.Operators.{list_of}
 
 -- a formula is decided where it hasn't too many distinct subformulas
@@ -60,6 +64,21 @@ pub data Fixes (p : List ℕ) (a : Formula) : Evaluation (Val Formula) → Type 
 pub data Translates (a : Formula) : Evaluation (Val Formula) → Type 0 where
   translated : IsIntuitionistic a → Translates a (Got (formula (goedel a)))
   modal : (what : Connective) → IsFirst what a → Translates a (Fails (NotIntuitionistic what))
+
+-- a formula without variables is looked at in GL; another is refused by its first variable in byte order
+pub data Traced (a : Formula) (answer : Evaluation (Val Formula) → Type 0) : Evaluation (Val Formula) → Type 0 where
+  traced : {r : Evaluation (Val Formula)} → IsLetterless a → answer r → Traced a answer r
+  lettered : (p : List ℕ) → IsFirstVariable p a → Traced a answer (Fails (NotLetterless p))
+
+-- its truth value at great heights, and then the heights at which it has the other one
+abbrev pub trace_values : Formula → List (Val Formula)
+trace_values a = truth (trace_of a).rest ∷ map number (trace_of a).heights
+
+-- the certificate with the quotient of its model, and the class of its world; with a proof it stays as it is
+pub data Shrinks (l : Logic) (a : Formula) : Evidence Formula → Evaluation (Val Formula) → Type 0 where
+  proof : {P : Tree Signed} → Shrinks l a (proved P) (Got (certificate l a (proved P)))
+  quotient : {m : FiniteModel} {w : ℕ} (q : Quotient) → IsQuotient m q →
+      Shrinks l a (refuted m w) (Got (certificate l a (refuted q.model (place_of q.places w))))
 
 -- variables of these names, as formulas
 abbrev pub letters_of : List (List ℕ) → List (Val Formula)
@@ -99,3 +118,6 @@ Calls Count vs = Given (one formula_in vs) (λ a. Is (Got (number (subformula_co
 Calls Length vs = Given (one list_in vs) (λ xs. Is (Got (number (count_of xs))))
 Calls Item vs = Given (two list_and_number vs) (λ x. Is (item_at x.0 x.1))
 Calls Append vs = Given (two list_and_value vs) (λ x. Is (list_of (with_last x.0 x.1)))
+Calls Smallest vs = Given (one certificate_in vs) (λ c. Shrinks c.0 c.1 c.2)
+Calls Trace vs = Given (one formula_in vs) (λ a. Traced a (Decided a (Is (list_of (vals (trace_values a))))))
+Calls Letterless vs = Given (one formula_in vs) (λ a. Traced a (Decided a (Is (Got (formula (letterless_of a))))))

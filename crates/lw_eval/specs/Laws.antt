@@ -23,7 +23,7 @@ abbrev pub RunMayBeCut : Type 0
 RunMayBeCut = (ss ts : Statements) (s : Statement) (env env1 : Variables) (k k1 : ℕ) (out : List ℕ) →
     Run ss env k env1 k1 out Done → Run (followed ss (tree.then s ts)) env k env1 k1 out Cut
 
--- a script that calls neither `certificate` nor `interpolate` has at most one output and one end
+-- a script that calls none of `certificate`, `interpolate` and `smallest` has at most one output and one end
 abbrev pub OneOutput : Type 0
 OneOutput = (script : Statements) (out out2 : List ℕ) (end end2 : End) → ArePlainStatements script →
     Allows script out end → Allows script out2 end2 → (out ≡ out2) × (end ≡ end2)

@@ -3,7 +3,7 @@
 use Rattle.std.specs.Prelude.{ℕ, Bool, List}
 use Rattle.lw_formula.specs.declared.logic.Logic.{Logic}
 use Rattle.lw_formula.specs.Formula.{Formula, letter}
-use Rattle.lw_value.specs.Values.{Val, Vals, formula, truth, number, items, logic, empty, item}
+use Rattle.lw_value.specs.Values.{Evidence, Val, Vals, formula, truth, number, items, logic, certificate, empty, item}
 use Rattle.lw_eval.specs.declared.trouble.Trouble.TheVariants.{Kind}
 use Rattle.lw_eval.specs.Evaluations.{Evaluation, Got, Fails}
 
@@ -21,6 +21,11 @@ truth_in _ = Fails Kind
 abbrev pub list_in : Val Formula → Evaluation (Vals Formula)
 list_in (items vs) = Got vs
 list_in _ = Fails Kind
+
+-- a certificate: its logic, its formula and what it shows of it
+abbrev pub certificate_in : Val Formula → Evaluation (Logic × Formula × Evidence Formula)
+certificate_in (certificate l a e) = Got (l, a, e)
+certificate_in _ = Fails Kind
 
 -- two formulas
 abbrev pub formulas_in : Val Formula → Val Formula → Evaluation (Formula × Formula)

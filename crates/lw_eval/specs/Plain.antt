@@ -1,14 +1,16 @@
--- Scripts without the two functions that may choose what they give.
+-- Scripts without the functions that may choose what they give.
 use Rattle.std.specs.Prelude.{⊤}
 use Rattle.lw_ast.specs.declared.function.Function.{Function}
-use Rattle.lw_ast.specs.declared.function.Function.TheVariants.{Certificate, Interpolate}
+use Rattle.lw_ast.specs.declared.function.Function.TheVariants.{Certificate, Interpolate, Smallest}
 use Rattle.lw_ast.specs.Trees as tree
 use Rattle.lw_ast.specs.Trees.{Expression, Expressions, Operands, Kind, Statement, Statements}
 
--- the function gives one value for its arguments: it is neither `certificate` nor `interpolate`
+-- the function gives one value for its arguments: it is none of `certificate`, `interpolate` and `smallest`, of which the last
+-- takes certificates alone
 abbrev pub GivesOne : Function → Type 0
 GivesOne Certificate = ⊥
 GivesOne Interpolate = ⊥
+GivesOne Smallest = ⊥
 GivesOne _ = ⊤
 
 -- no function that may choose is called in the expression

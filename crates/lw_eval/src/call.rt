@@ -10,6 +10,8 @@ use crate::interpolating::interpolate;
 use crate::listing::{append, item, length, vars};
 use crate::measure::{count, depth};
 use crate::replacing::substitute;
+use crate::shrinking::smallest;
+use crate::tracing::{letterless, trace};
 use crate::trouble::Trouble;
 use lw_ast::Function;
 use lw_pool::Pool;
@@ -57,6 +59,9 @@ fn call_one(
         Function::Depth => depth(pool, argument),
         Function::Count => count(pool, argument),
         Function::Length => length(pool, argument),
+        Function::Smallest => smallest(alloc, pool, argument),
+        Function::Trace => trace(alloc, pool, argument),
+        Function::Letterless => letterless(alloc, pool, argument),
         Function::Provable
         | Function::Certificate
         | Function::Interpolate
@@ -95,7 +100,10 @@ fn call_two(
         | Function::Vars
         | Function::Depth
         | Function::Count
-        | Function::Length => Err(EvalFault::Troubled(Trouble::Kind)),
+        | Function::Length
+        | Function::Smallest
+        | Function::Trace
+        | Function::Letterless => Err(EvalFault::Troubled(Trouble::Kind)),
     }
 }
 
@@ -129,6 +137,9 @@ fn call_three(
         | Function::Count
         | Function::Length
         | Function::Item
-        | Function::Append => Err(EvalFault::Troubled(Trouble::Kind)),
+        | Function::Append
+        | Function::Smallest
+        | Function::Trace
+        | Function::Letterless => Err(EvalFault::Troubled(Trouble::Kind)),
     }
 }

@@ -129,8 +129,8 @@ fn body_of(answer: Answer) -> Body
     }
 }
 
-// The value that is the certificate.
-fn shared(alloc: Global, certificate: Certificate) -> Result<Value, AllocError>
+/// The value that is the certificate.
+pub fn shared(alloc: Global, certificate: Certificate) -> Result<Value, AllocError>
     ensures { IfOk result (λ value. value_of value ≡ values.certified certificate) }
 {
     Ok(Value::Certificate(Rc::new(alloc, certificate)?))

@@ -15,7 +15,7 @@ pub fn run_may_be_cut()
     ensures { RunMayBeCut }
 {}
 
-/// Law: a script that calls neither `certificate` nor `interpolate` has at most one output and one end.
+/// Law: a script that calls none of `certificate`, `interpolate` and `smallest` has at most one output and one end.
 pub fn one_output()
     ensures { OneOutput }
 {}

@@ -19,7 +19,9 @@ mod print;
 mod replacing;
 mod run;
 mod run_fault;
+mod shrinking;
 mod step;
+mod tracing;
 mod trouble;
 
 pub use laws::{one_output, run_falls_apart, run_goes_on, run_may_be_cut, steps_end};

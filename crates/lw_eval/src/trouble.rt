@@ -16,6 +16,8 @@ pub enum Trouble {
     TooManyBoxes { count: usize },
     /// The formula has a connective that no intuitionistic formula has: the first of them in their order.
     NotIntuitionistic { what: Connective },
+    /// The formula, which may have no variables, has some: the first in byte order.
+    NotLetterless { name: Chars },
     /// The script variable has no value.
     Unbound { name: Chars },
     /// A value is of the wrong kind.

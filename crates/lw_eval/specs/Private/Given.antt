@@ -5,12 +5,15 @@ use Rattle.lw_formula.specs.Formula.{Formula, letter, subformula_count}
 use Rattle.lw_pool.specs.declared.id.FormId.{FormId}
 use Rattle.lw_pool.specs.Region.{tree_at, IsLive}
 use Rattle.lw_closure.specs.declared.fault.TheConstants.{SUBFORMULA_LIMIT}
+use Rattle.lw_trace.specs.LetterlessTruth.{IsLetterless}
+use Rattle.lw_trace.specs.TraceFaults.{IsFirstVariable}
 use Rattle.lw_ast.specs.declared.function.Function.{Function}
 use Rattle.lw_value.specs.declared.value.Value.{Value}
 use Rattle.lw_value.specs.Values.{Evidence, shown_by, EachShown, certificate, Val, Vals, seen, seen_all, AreLive, AreItemsLive}
 use Rattle.lw_value.specs.Evidence.{HasNoCertificate}
 use Rattle.lw_value.specs.Views.{value_of, values_of}
-use Rattle.lw_eval.specs.declared.trouble.Trouble.TheVariants.{TooLarge, Kind}
+use Rattle.lw_eval.specs.declared.trouble.Trouble.{Trouble}
+use Rattle.lw_eval.specs.declared.trouble.Trouble.TheVariants.{TooLarge, NotLetterless, Kind}
 use Rattle.lw_eval.specs.declared.fault.EvalFault.{EvalFault}
 use Rattle.lw_eval.specs.declared.fault.EvalFault.TheVariants.{Troubled, Memory}
 use Rattle.lw_eval.specs.Evaluations.{Evaluation, Got, Fails}
@@ -25,6 +28,17 @@ Faults value Memory = ⊤
 abbrev pub IsUndecided : Formula → EvalFault → Type 0
 IsUndecided a (Troubled t) = (t ≡ TooLarge (subformula_count a)) × (SUBFORMULA_LIMIT < subformula_count a)
 IsUndecided a Memory = ⊤
+
+-- the trouble names the formula's first variable, or says of one without variables that it has too many distinct subformulas
+abbrev pub IsTracingTrouble : Formula → Trouble → Type 0
+IsTracingTrouble a (NotLetterless p) = IsFirstVariable p a
+IsTracingTrouble a (TooLarge n) = IsLetterless a × (n ≡ subformula_count a) × (SUBFORMULA_LIMIT < n)
+IsTracingTrouble a _ = ⊥
+
+-- the formula has no trace here, for such a reason; or memory ran out
+abbrev pub IsUntraced : Formula → EvalFault → Type 0
+IsUntraced a (Troubled t) = IsTracingTrouble a t
+IsUntraced a Memory = ⊤
 
 -- an evaluation may come to what was answered, as it is seen, or to its trouble
 abbrev pub Gives : {X A : Type 0} → (X → A) → (Evaluation A → Type 0) → Result X EvalFault → Type 0
