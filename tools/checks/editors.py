@@ -117,7 +117,7 @@ def check_package(report):
         report.compare("scope of %s" % row["path"], row["scopeName"], grammar["scopeName"])
 
 
-def run(report):
+def check_all(report):
     check_scripts(report)
     check_formulas(report)
     check_certificates(report)
