@@ -31,7 +31,7 @@ def item_lines(item, in_full):
 
 
 def file_lines(path, items, in_full):
-    yield "%s: %d lines" % (path, count_of(items))
+    yield "%s: %d line%s" % (path, count_of(items), "" if count_of(items) == 1 else "s")
     for item in items:
         yield from item_lines(item, in_full)
 
