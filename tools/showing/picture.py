@@ -1,15 +1,15 @@
 """A model as a picture in SVG, drawn by itself: circles with their true variables, the refuting world's doubled, and arrows."""
 
-import math
 from xml.sax.saxutils import escape
 
+from showing.arrows import arrow_lines, one_for_both_ways
 from showing.labels import LETTER, LINE, label_of, radius_for, wrapped
 from showing.layout import Layout
+from showing.strokes import number, text_line
 
 MOST_ARROWS = 600
-RING, HEAD, HALF_HEAD = 4, 9, 4
+RING = 4
 MARGIN, LEAST_WIDTH = 24, 460
-LOOP_FROM, LOOP_TO = (0.58, -0.81), (0.95, -0.31)
 STYLE = (
     "text { font-family: monospace; font-size: 13px; fill: black; } .middle { text-anchor: middle; } "
     ".world { font-weight: bold; } circle, path { fill: none; stroke: black; stroke-width: 1.3; } .head { fill: black; stroke: none; }"
@@ -18,48 +18,6 @@ STYLE = (
 
 class TooManyArrows(Exception):
     """There are more arrows than a picture can show."""
-
-
-def spread(count, radius):
-    """Places side by side on the upper or lower part of a circle."""
-    if count == 1:
-        return [0.0]
-    return [radius * 1.2 * (i / (count - 1) - 0.5) for i in range(count)]
-
-
-def number(value):
-    text = "%.1f" % value
-    return "0.0" if text == "-0.0" else text
-
-
-def point(p):
-    return number(p[0]) + " " + number(p[1])
-
-
-def toward(p, q, length):
-    """The point at this distance from p on the way to q."""
-    away = math.hypot(q[0] - p[0], q[1] - p[1]) or 1.0
-    return (p[0] + (q[0] - p[0]) * length / away, p[1] + (q[1] - p[1]) * length / away)
-
-
-def head(tip, back):
-    """An arrow's head with its tip there, pointing away from `back`."""
-    foot = toward(tip, back, HEAD)
-    across = ((tip[1] - foot[1]) * HALF_HEAD / HEAD, (foot[0] - tip[0]) * HALF_HEAD / HEAD)
-    corners = [tip, (foot[0] + across[0], foot[1] + across[1]), (foot[0] - across[0], foot[1] - across[1])]
-    return '<path class="head" d="M %s L %s L %s Z"/>' % tuple(point(corner) for corner in corners)
-
-
-def curve(points, two_headed):
-    """A curve of cubic pieces, whose ends are points 0, 3, 6 and so on, with a head at its end, or at both ends."""
-    start = toward(points[0], points[1], HEAD - 1) if two_headed else points[0]
-    end = toward(points[-1], points[-2], HEAD - 1)
-    through = [start] + points[1:-1] + [end]
-    pieces = ["C " + ", ".join(point(p) for p in through[i : i + 3]) for i in range(1, len(through), 3)]
-    yield '<path d="M %s %s"/>' % (point(start), " ".join(pieces))
-    yield head(points[-1], points[-2])
-    if two_headed:
-        yield head(points[0], points[1])
 
 
 class Picture:
@@ -114,84 +72,6 @@ class Picture:
     def passed(self, arrow):
         left = (self.width() - self.layout.width) / 2
         return [(left + x, self.row_height(row)) for x, row in self.layout.passed[arrow]]
-
-
-def one_for_both_ways(arrows):
-    """The arrows, with whether they have two heads: one for two that go there and back."""
-    there = set(arrows)
-    return {(v, w): (w, v) in there for v, w in arrows if (w, v) not in there or v < w}
-
-
-def ports(picture):
-    """Where each arrow between rows leaves its upper circle and meets its lower one: side by side, in the order in which
-    they come."""
-    outgoing, incoming = {}, {}
-    for v, w in picture.layout.passed:
-        way = [picture.center(v)] + picture.passed((v, w)) + [picture.center(w)]
-        outgoing.setdefault(v, []).append((way[1][0], w))
-        incoming.setdefault(w, []).append((way[-2][0], v))
-    found = {}
-    for v, ends in outgoing.items():
-        for (_, w), x in zip(sorted(ends), spread(len(ends), picture.radius)):
-            found[(v, w)] = [x, 0.0]
-    for w, ends in incoming.items():
-        for (_, v), x in zip(sorted(ends), spread(len(ends), picture.radius)):
-            found[(v, w)][1] = x
-    return found
-
-
-def on_circle(picture, w, x, downward):
-    """The point of the world's circle so far to the side of its centre."""
-    (cx, cy), r = picture.center(w), picture.reach(w)
-    y = math.sqrt(max(0.0, r * r - x * x))
-    return (cx + x, cy + y if downward else cy - y)
-
-
-def between_rows(picture, v, w, offsets):
-    """The points of an arrow to a lower row: upright at each row that it passes."""
-    stops = [on_circle(picture, v, offsets[0], True)]
-    for x, y in picture.passed((v, w)):
-        stops += [(x, y - picture.radius), (x, y + picture.radius)]
-    stops.append(on_circle(picture, w, offsets[1], False))
-    points = [stops[0]]
-    for upper, lower in zip(stops, stops[1:]):
-        middle = (upper[1] + lower[1]) / 2
-        points += [(upper[0], middle), (lower[0], middle), lower]
-    return points
-
-
-def within_row(picture, v, w):
-    """The points of an arrow between worlds of a row: straight to a neighbour, else in an arc, to the right above them."""
-    (vx, y), (wx, _) = picture.center(v), picture.center(w)
-    if not picture.is_arc(v, w):
-        side = 1 if wx > vx else -1
-        start, end = (vx + side * picture.reach(v), y), (wx - side * picture.reach(w), y)
-        return [start, toward(start, end, HEAD), toward(end, start, HEAD), end]
-    up = wx > vx
-    start, end = on_circle(picture, v, 0.0, not up), on_circle(picture, w, 0.0, not up)
-    rise = picture.row_gap() * (0.3 + 0.3 * abs(wx - vx) / picture.layout.width) * (-1 if up else 1)
-    return [start, (vx, start[1] + rise), (wx, end[1] + rise), end]
-
-
-def loop(picture, w):
-    (x, y), r = picture.center(w), picture.reach(w)
-    start, end = [(x + r * d[0], y + r * d[1]) for d in (LOOP_FROM, LOOP_TO)]
-    outer = [(start[0] + 16, start[1] - 22), (end[0] + 24, end[1] - 8)]
-    return curve([start, outer[0], outer[1], end], False)
-
-
-def arrow_lines(picture):
-    offsets = ports(picture)
-    for (v, w), two_headed in sorted(picture.arrows.items()):
-        level = picture.is_level(v, w)
-        points = within_row(picture, v, w) if level else between_rows(picture, v, w, offsets[(v, w)])
-        yield from curve(points, two_headed)
-    for w in picture.loops:
-        yield from loop(picture, w)
-
-
-def text_line(x, y, kind, text):
-    return '<text class="%s" x="%s" y="%s">%s</text>' % (kind, number(x), number(y), escape(text))
 
 
 def world_lines(picture, w):
