@@ -4,9 +4,9 @@ import glob
 import os
 import re
 import shlex
-import subprocess
 
 from checks.report import TOP, text_of
+from checks.running import run
 
 SHOWN = ("tools/", "examples/provers/")
 
@@ -18,12 +18,7 @@ def commands_of(text):
             yield match.group(1), re.sub(r"^    ", "", match.group(2), flags=re.MULTILINE)
 
 
-def written_by(command):
-    done = subprocess.run(shlex.split(command), stdout=subprocess.PIPE, stderr=subprocess.STDOUT, cwd=TOP)
-    return done.stdout.decode("utf-8")
-
-
 def check_all(report):
     for path in ["README.md"] + sorted(glob.glob(os.path.join(TOP, "docs", "*.md"))):
         for command, wanted in commands_of(text_of(path)):
-            report.compare("%s: %s" % (os.path.basename(path), command), wanted.rstrip("\n"), written_by(command).rstrip("\n"))
+            report.compare("%s: %s" % (os.path.basename(path), command), wanted.rstrip("\n"), run(*shlex.split(command))[0].rstrip("\n"))

@@ -5,7 +5,8 @@ import os
 
 from certificates.formulas import printed, spelled
 from checks.provers import answer_of
-from checks.report import TOP, run, text_of
+from checks.report import TOP, text_of
+from checks.running import run
 from exchange.forms import FORMS
 from exchange.reading import CannotTurn, read
 
@@ -51,14 +52,14 @@ def check_examples(report):
         report.check("ten examples of %s" % form, len(paths) >= 10)
         for path in paths:
             formula, answer = text_of(path[: -len(".txt")] + ".expected").splitlines()
-            report.compare("from-other %s %s" % (form, path), (formula + "\n", 0), run("from-other", form, path))
+            report.compare("from-other %s %s" % (form, path), (formula + "\n", 0), run("tools/from-other", form, path))
             report.compare("answer of %s" % path, answer, answer_in_k(form, formula))
 
 
 def check_script(report):
     path = "examples/from-other/intohylo/clash-below.txt"
     wanted = "print certificate(s4, ~(dia p1 & box ~p1));\n"
-    report.compare("from-other --script", (wanted, 0), run("from-other", "--script", "s4", "intohylo", path))
+    report.compare("from-other --script", (wanted, 0), run("tools/from-other", "--script", "s4", "intohylo", path))
 
 
 def check_refused(report):

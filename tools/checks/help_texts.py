@@ -3,7 +3,9 @@
 import os
 import subprocess
 
-from checks.report import TOOLS
+from checks.report import TOP
+
+TOOLS = os.path.join(TOP, "tools")
 
 
 def check_all(report):

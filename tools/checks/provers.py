@@ -1,31 +1,16 @@
 """Whether the certificates of the prover of examples/provers are accepted, and those that docs/PROVERS.md shows."""
 
-import importlib.machinery
-import importlib.util
-import os
 import re
 
 from certificates.formulas import printed, spelled
 from certificates.judge import verdict
 from checks.choices import Choices
-from checks.report import TOP, text_of
+from checks.report import text_of
+from checks.running import loaded
 
-PROVER = os.path.join(TOP, "examples", "provers", "k")
 DOCUMENT = "docs/PROVERS.md"
 COUNT = 300
-
-
-def loaded(path):
-    """A program without an ending in its name, as a module."""
-    loader = importlib.machinery.SourceFileLoader("prover_of_k", path)
-    module = importlib.util.module_from_spec(importlib.util.spec_from_loader(loader.name, loader))
-    loader.exec_module(module)
-    return module
-
-
-PROVER_OF_K = loaded(PROVER)
-
-
+PROVER_OF_K = loaded("examples/provers/k")
 def answer_of(formula):
     """`proof` or `model`, where the certificate is accepted; else what is said of it."""
     lines = PROVER_OF_K.certificate(spelled(formula.encode()))

@@ -1,23 +1,13 @@
 """What a check finds: how many comparisons passed, and a line for each that failed."""
 
 import os
-import subprocess
-import sys
 
 TOP = os.path.dirname(os.path.dirname(os.path.dirname(os.path.abspath(__file__))))
-TOOLS = os.path.join(TOP, "tools")
 
 
 def text_of(path):
     with open(os.path.join(TOP, path), encoding="utf-8") as file:
         return file.read()
-
-
-def run(tool, *words):
-    """What the tool writes, on both channels, and its status."""
-    command = [sys.executable, os.path.join(TOOLS, tool)] + list(words)
-    done = subprocess.run(command, stdout=subprocess.PIPE, stderr=subprocess.STDOUT, cwd=TOP)
-    return done.stdout.decode("utf-8"), done.returncode
 
 
 class Report:

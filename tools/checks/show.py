@@ -7,7 +7,8 @@ import xml.etree.ElementTree as tree
 
 from certificates.judge import verdict
 from certificates.texts import read
-from checks.report import TOP, run, text_of
+from checks.report import TOP, text_of
+from checks.running import run
 from showing import graph, labels, picture, reasons, reduction
 
 CERTIFICATES = os.path.join(TOP, "examples", "check")
@@ -45,7 +46,7 @@ def check_first_lines(report):
     """The first line begins with the checker's own, and the status is its own."""
     for name in names_of_certificates():
         line, status = verdict(data_of(name))
-        written, ended = run("show", "examples/check/%s.txt" % name)
+        written, ended = run("tools/show", "examples/check/%s.txt" % name)
         report.check("show %s" % name, written.startswith(line) and ended == status, written.split("\n")[0])
 
 
@@ -92,10 +93,25 @@ def is_within(svg, text):
     return 0 <= left and left + length <= width and labels.LINE <= y <= height
 
 
-def points_of(svg):
+def paths_of(svg):
+    """The points of each path, as they are given."""
     for path in svg.iter(SVG + "path"):
         numbers = [float(word) for word in path.get("d").replace(",", " ").split() if word[0] in "-0123456789"]
-        yield from zip(numbers[::2], numbers[1::2])
+        yield path.get("class"), list(zip(numbers[::2], numbers[1::2]))
+
+
+def along(points):
+    """Points on a curve of cubic pieces, close together."""
+    for i in range(0, len(points) - 3, 3):
+        for step in range(21):
+            t, u = step / 20, 1 - step / 20
+            weights = (u**3, 3 * u * u * t, 3 * u * t * t, t**3)
+            yield tuple(sum(weight * p[axis] for weight, p in zip(weights, points[i : i + 4])) for axis in (0, 1))
+
+
+def crosses(curve, circles):
+    """Whether the curve goes through a circle."""
+    return any((x - u) ** 2 + (y - v) ** 2 < (r - 0.5) ** 2 for x, y in along(curve) for u, v, r in circles)
 
 
 def check_picture(report, what, lines):
@@ -104,7 +120,10 @@ def check_picture(report, what, lines):
     report.check("%s: circles" % what, not any(overlap(a, b) for i, a in enumerate(circles) for b in circles[:i]))
     report.check("%s: texts" % what, all(is_within(svg, text) for text in svg.iter(SVG + "text")))
     width, height = float(svg.get("width")), float(svg.get("height"))
-    report.check("%s: arrows" % what, all(0 <= x <= width and 0 <= y <= height for x, y in points_of(svg)))
+    paths = list(paths_of(svg))
+    report.check("%s: arrows in view" % what, all(0 <= x <= width and 0 <= y <= height for _, path in paths for x, y in path))
+    curves = [path for kind, path in paths if kind != "head"]
+    report.check("%s: arrows between circles" % what, not any(crosses(curve, circles) for curve in curves))
 
 
 def check_models(report):
@@ -139,7 +158,7 @@ def check_committed(report):
             name = os.path.basename(path)[: -len(".svg")]
             stem = name[: -len("-reduced")] if name.endswith("-reduced") else name
             drawn = os.path.join(folder, "drawn.svg")
-            run("show", "examples/check/%s.txt" % stem, "--svg", drawn, *(["--reduced"] if stem != name else []))
+            run("tools/show", "examples/check/%s.txt" % stem, "--svg", drawn, *(["--reduced"] if stem != name else []))
             report.compare("docs/pictures/%s.svg" % name, text_of(path), text_of(drawn))
             report.check("%s stands in a document" % name, any("pictures/%s.svg" % name in text for text in documents))
 

@@ -3,7 +3,8 @@
 import os
 import re
 
-from checks.report import TOP, run, text_of
+from checks.report import TOP, text_of
+from checks.running import run
 from trusted.order import crate_of
 from trusted.workbench import reached
 
@@ -47,6 +48,6 @@ def check_all(report):
     reach, order = reached(TOP)
     check_names(report, reach)
     check_page(report, order)
-    written, status = run("trusted-reading", "--total")
+    written, status = run("tools/trusted-reading", "--total")
     total = written.strip()[len("In all: ") :]
     report.check("README.md, %s" % total, status == 0 and total in text_of("README.md"))
