@@ -114,11 +114,22 @@ def crosses(curve, circles):
     return any((x - u) ** 2 + (y - v) ** 2 < (r - 0.5) ** 2 for x, y in along(curve) for u, v, r in circles)
 
 
+def is_inside(text, circle):
+    """Whether the letters lie in the circle."""
+    x, y = float(text.get("x")), float(text.get("y"))
+    half = labels.LETTER * len(text.text) / 2
+    u, v, r = (float(circle.get(key)) for key in ("cx", "cy", "r"))
+    corners = [(x + side, y + up) for side in (-half, half) for up in (-10, 2)]
+    return all((a - u) ** 2 + (b - v) ** 2 <= r * r for a, b in corners)
+
+
 def check_picture(report, what, lines):
     svg = tree.fromstring("\n".join(lines))
     circles = circles_of(svg)
     report.check("%s: circles" % what, not any(overlap(a, b) for i, a in enumerate(circles) for b in circles[:i]))
     report.check("%s: texts" % what, all(is_within(svg, text) for text in svg.iter(SVG + "text")))
+    groups = [(group.findall(SVG + "text"), group.findall(SVG + "circle")[-1]) for group in svg.iter(SVG + "g")]
+    report.check("%s: labels" % what, all(is_inside(text, circle) for texts, circle in groups for text in texts))
     width, height = float(svg.get("width")), float(svg.get("height"))
     paths = list(paths_of(svg))
     report.check("%s: arrows in view" % what, all(0 <= x <= width and 0 <= y <= height for _, path in paths for x, y in path))
@@ -134,6 +145,13 @@ def check_models(report):
             if len(arrows) <= picture.MOST_ARROWS:
                 what = "picture of %s%s" % (name, ", reduced" if is_reduced else "")
                 check_picture(report, what, picture.lines(model, arrows, ["a caption " * 20]))
+
+
+def check_knots(report):
+    """Worlds that reach one another round about, and arrows that pass rows."""
+    sees = [[1, 3, 7], [2], [0, 6], [4], [0, 1], [], [5], [5, 6]]
+    arrows = [(w, v) for w, row in enumerate(sees) for v in row]
+    check_picture(report, "picture of knots", picture.lines((sees, [{"p"}] * 8, 7), arrows, []))
 
 
 def check_long_labels(report):
@@ -166,6 +184,7 @@ def check_committed(report):
 def check_all(report):
     check_first_lines(report)
     check_models(report)
+    check_knots(report)
     check_long_labels(report)
     check_graph(report)
     check_committed(report)
