@@ -16,29 +16,28 @@ def without_loops(sees):
     return [(w, v) for w, row in enumerate(sees) for v in row if v != w]
 
 
-def clusters_of(sees):
+def clusters_of(rows):
     """The worlds of a transitive relation, in lists of those that see each other; each list is in order."""
-    rows = [set(row) for row in sees]
     found, known = [], set()
-    for w in range(len(rows)):
+    for w, row in enumerate(rows):
         if w not in known:
-            cluster = [w] + [v for v in sees[w] if v > w and w in rows[v]]
+            cluster = [w] + [v for v in sorted(row) if v > w and w in rows[v]]
             known.update(cluster)
             found.append(cluster)
     return found
 
 
-def covering(sees):
+def covering(rows):
     """The least arrows whose transitive closure is the relation, loops aside: within a cluster those between neighbours in
     its list, there and back; between clusters, from the last world of one to the first of each next one."""
-    clusters = clusters_of(sees)
+    clusters = clusters_of(rows)
     first_of = {w: cluster[0] for cluster in clusters for w in cluster}
     drawn = []
     for cluster in clusters:
         for v, w in zip(cluster, cluster[1:]):
             drawn += [(v, w), (w, v)]
-        above = {first_of[v] for v in sees[cluster[0]]} - {cluster[0]}
-        beyond = {u for v in above for u in above if u != v and u in sees[v]}
+        above = {first_of[v] for v in rows[cluster[0]]} - {cluster[0]}
+        beyond = set().union(*(above & rows[v] - {v} for v in above))
         drawn += [(cluster[-1], v) for v in sorted(above - beyond)]
     return sorted(drawn)
 
@@ -48,7 +47,7 @@ def reduced(logic, sees):
         return [(w, v) for w, row in enumerate(sees) for v in row]
     if logic == "kt":
         return without_loops(sees)
-    return covering(sees)
+    return covering([set(row) for row in sees])
 
 
 def drawn_arrows(logic, sees, is_reduced):
