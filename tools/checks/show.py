@@ -5,8 +5,9 @@ import os
 import tempfile
 import xml.etree.ElementTree as tree
 
+from certificates.calculus import flip, walk
 from certificates.judge import verdict
-from certificates.texts import read
+from certificates.texts import ARITY, LOGICS, read
 from checks.report import TOP, text_of
 from checks.running import run
 from showing import graph, labels, picture, reasons, reduction
@@ -48,6 +49,30 @@ def check_first_lines(report):
         line, status = verdict(data_of(name))
         written, ended = run("tools/show", "examples/check/%s.txt" % name)
         report.check("show %s" % name, written.startswith(line) and ended == status, written.split("\n")[0])
+
+
+def damaged_proofs():
+    """Proofs with another rule of as many premises, or with the principal under the other sign, at one step."""
+    for name in names_of_certificates():
+        data = data_of(name)
+        if len(data) < 2000 and not verdict(data)[0].startswith("fault") and isinstance(read(data)[2], list):
+            logic, goal, steps = read(data)
+            for at, (rule, s) in enumerate(steps):
+                for other in ARITY:
+                    if ARITY[other] == ARITY[rule]:
+                        yield goal, steps[:at] + [(other, s)] + steps[at + 1 :]
+                        yield goal, steps[:at] + [(other, flip(s))] + steps[at + 1 :]
+
+
+def check_reasons(report):
+    """A step that breaks its rule has a reason, in each logic, and no other step has one."""
+    for goal, steps in damaged_proofs():
+        for logic in LOGICS:
+            for count, rule, s, have, left in walk(logic, goal, steps):
+                why = reasons.of_step(logic, goal, have, rule, s)
+                if (why is None) != (left is not None):
+                    report.check("reason of %s %s in %s" % (rule, s, logic), False, str(why))
+    report.check("reasons of steps", True)
 
 
 def closure(logic, count, arrows):
@@ -183,6 +208,7 @@ def check_committed(report):
 
 def check_all(report):
     check_first_lines(report)
+    check_reasons(report)
     check_models(report)
     check_knots(report)
     check_long_labels(report)
