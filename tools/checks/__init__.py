@@ -1,0 +1,1 @@
+"""The checks of the tools beside the workbench, which tools/check-tools runs."""

@@ -1,0 +1,136 @@
+"""Where the worlds of a picture stand: in rows by their layers, near those that they see (Sugiyama's method).
+
+An arrow that passes a row takes up a slot in it, so that it goes between the circles.
+"""
+
+from showing.layers import knots_of, layer_of_each
+
+ROUNDS = 12
+
+
+class Slot:
+    """A place in a row: of some worlds that reach one another, or of an arrow that passes."""
+
+    def __init__(self, row, worlds, width):
+        self.row, self.worlds, self.width = row, worlds, width
+        self.above, self.below, self.x = [], [], 0.0
+
+
+def world_slots(knots, layer, spacing):
+    """A slot for each knot, in which its worlds stand side by side."""
+    slots = [Slot(layer[knot[0]], knot, spacing * len(knot)) for knot in knots]
+    return slots, {w: slot for slot in slots for w in slot.worlds}
+
+
+def passing_slots(arrows, slot_of, width):
+    """For each arrow between knots its way down: the slot that it begins in, those that it passes, and that it ends in."""
+    ways = {}
+    for v, w in arrows:
+        first, last = slot_of[v], slot_of[w]
+        if first is not last:
+            passed = [Slot(row, [], width) for row in range(first.row + 1, last.row)]
+            ways[(v, w)] = [first] + passed + [last]
+    return ways
+
+
+def join(ways):
+    for way in ways.values():
+        for upper, lower in zip(way, way[1:]):
+            upper.below.append(lower)
+            lower.above.append(upper)
+
+
+def rows_of(slots, ways):
+    everything = slots + [slot for way in ways.values() for slot in way[1:-1]]
+    rows = [[] for _ in range(1 + max(slot.row for slot in everything))]
+    for slot in everything:
+        rows[slot.row].append(slot)
+    return rows
+
+
+def crossings(rows):
+    """How many pairs of arrows between neighbouring rows cross."""
+    total = 0
+    for row, following in zip(rows, rows[1:]):
+        place = {id(slot): i for i, slot in enumerate(following)}
+        ends = [place[id(lower)] for slot in row for lower in sorted(slot.below, key=lambda s: place[id(s)])]
+        total += sum(1 for i, end in enumerate(ends) for other in ends[:i] if other > end)
+    return total
+
+
+def sort_row(row, neighbours, place):
+    """Sorts the row by the mean place of each slot's neighbours; one without any stays about where it is."""
+    means = {}
+    for i, slot in enumerate(row):
+        near = [place[id(other)] for other in neighbours(slot)]
+        means[id(slot)] = sum(near) / len(near) if near else i
+    row.sort(key=lambda slot: means[id(slot)])
+
+
+def sweep(rows, downward):
+    order = range(1, len(rows)) if downward else range(len(rows) - 2, -1, -1)
+    for i in order:
+        fixed = rows[i - 1] if downward else rows[i + 1]
+        place = {id(slot): at for at, slot in enumerate(fixed)}
+        sort_row(rows[i], (lambda slot: slot.above) if downward else (lambda slot: slot.below), place)
+
+
+def order_rows(rows):
+    """Sweeps up and down, and keeps the order with the fewest crossings."""
+    best, least = [list(row) for row in rows], crossings(rows)
+    for turn in range(ROUNDS):
+        sweep(rows, turn % 2 == 0)
+        count = crossings(rows)
+        if count < least:
+            best, least = [list(row) for row in rows], count
+    return best
+
+
+def settle(row, wishes):
+    """Puts the slots of a row as near to their wishes as their order and their widths allow, by least squares: slots that
+    would overlap are put together as a block at the mean of what they wish."""
+    blocks, offset = [], 0.0
+    for slot, wish in zip(row, wishes):
+        blocks.append((wish - offset - slot.width / 2, 1))
+        offset += slot.width
+        while len(blocks) > 1 and blocks[-2][0] >= blocks[-1][0]:
+            (one, many), (two, more) = blocks[-2:]
+            blocks[-2:] = [((one * many + two * more) / (many + more), many + more)]
+    lefts = [left for left, many in blocks for _ in range(many)]
+    offset = 0.0
+    for slot, left in zip(row, lefts):
+        slot.x = left + offset + slot.width / 2
+        offset += slot.width
+
+
+def mean_of(slots, other):
+    return sum(slot.x for slot in slots) / len(slots) if slots else other
+
+
+def place_rows(rows):
+    for row in rows:
+        settle(row, [0.0] * len(row))
+    for turn in range(ROUNDS):
+        downward = turn % 2 == 0
+        for row in rows if downward else reversed(rows):
+            settle(row, [mean_of(slot.above if downward else slot.below, slot.x) for slot in row])
+
+
+class Layout:
+    """Where each world stands, in columns of whole units from 0 and in rows, and the ways of the arrows between rows."""
+
+    def __init__(self, count, arrows, spacing, passing):
+        knots = knots_of(count, arrows)
+        slots, slot_of = world_slots(knots, layer_of_each(count, arrows, knots), spacing)
+        ways = passing_slots(arrows, slot_of, passing)
+        join(ways)
+        self.rows = order_rows(rows_of(slots, ways))
+        place_rows(self.rows)
+        left = min(slot.x - slot.width / 2 for row in self.rows for slot in row)
+        self.width = round(max(slot.x + slot.width / 2 for row in self.rows for slot in row) - left)
+        self.row = {w: slot.row for slot in slots for w in slot.worlds}
+        self.x = {}
+        for slot in slots:
+            for i, w in enumerate(slot.worlds):
+                self.x[w] = round(slot.x - left + spacing * (i + 0.5 - len(slot.worlds) / 2))
+        self.passed = {arrow: [(round(slot.x - left), slot.row) for slot in way[1:-1]] for arrow, way in ways.items()}

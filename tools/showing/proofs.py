@@ -1,0 +1,92 @@
+"""A proof as an indented tree, with the set at each step."""
+
+from certificates.calculus import component, flip, one, step_parts, two, walk
+from showing import reasons
+from showing.words import LOGIC_NAMES, counted, listed, signed
+
+LEGEND = "Below each step's rule stands the set that it has to close: > is its principal, + is new in it."
+
+
+class Place:
+    """What is shown of a set that waits to be closed: its formulas in order, those that are new, and where it stands."""
+
+    def __init__(self, formulas, new, indent, heading):
+        self.formulas, self.new, self.indent, self.heading = formulas, new, indent, heading
+
+
+def below(place, have, additions, indent, heading):
+    """The place of a premise: what is left of the set above in its order, and then what is new."""
+    above = [s for s in place.formulas if s in have]
+    new = []
+    for s in additions:
+        if s not in place.formulas and s not in new:
+            new.append(s)
+    return Place(above + new, set(new), indent, heading)
+
+
+def step_lines(logic, parts):
+    yield "goes to a world that is seen; in %s its set has" % LOGIC_NAMES[logic]
+    for name, part in parts:
+        yield "  %s: %s" % (name, listed(part))
+
+
+def branching(sides):
+    return ["leaves two sets, with %s and with %s" % (listed(sides[0]), listed(sides[1]))]
+
+
+def explained(logic, rule, s, place):
+    """What the step does, in lines, and what each of its premises adds."""
+    if rule == "close":
+        return ["%s and %s can't both hold" % (signed(s), signed(flip(s)))], []
+    if rule == "absurd":
+        return ["%s can't hold" % signed(s)], []
+    if rule == "one":
+        return ["leaves the set with %s" % listed(one(s))], [one(s)]
+    if rule == "two":
+        return branching(two(s)), list(two(s))
+    if rule == "refl":
+        return ["each world sees itself, so leaves the set with %s" % listed([component(s)])], [[component(s)]]
+    if rule == "cut":
+        return branching(([s], [flip(s)])), [[s], [flip(s)]]
+    parts = step_parts(logic, s, place.formulas)
+    return list(step_lines(logic, parts)), [[t for name, part in parts for t in part]]
+
+
+def set_lines(place, principal):
+    for s in place.formulas:
+        yield "%s%s %s" % (">" if s == principal else " ", "+" if s in place.new else " ", signed(s))
+
+
+def premise_places(place, left, additions):
+    """The places of the premises; where there are two, each stands under a heading and farther in."""
+    if len(left) == 1:
+        return [below(place, left[0], additions[0], place.indent, None)]
+    indent = place.indent + "  "
+    return [below(place, have, added, indent, "with %s:" % listed(added)) for have, added in zip(left, additions)]
+
+
+def broken(logic, goal, have, rule, s, behind):
+    why = reasons.of_step(logic, goal, have, rule, s)
+    yield "breaks its rule: %s" % why
+    if behind:
+        yield "(%s behind it %s not shown)" % (counted(behind, "step"), "is" if behind == 1 else "are")
+
+
+def lines(logic, goal, steps):
+    """The tree, up to the first step that breaks its rule."""
+    yield LEGEND
+    waiting = [Place([("F", goal)], set(), "", None)]
+    for number, rule, s, have, left in walk(logic, goal, steps):
+        place = waiting.pop()
+        if place.heading:
+            yield place.indent[:-2] + place.heading
+        yield "%s%d. %s" % (place.indent, number, rule)
+        for line in set_lines(place, s):
+            yield "%s     %s" % (place.indent, line)
+        if left is None:
+            told = broken(logic, goal, have, rule, s, len(steps) - number)
+        else:
+            told, additions = explained(logic, rule, s, place)
+            waiting += reversed(premise_places(place, left, additions))
+        for line in told:
+            yield "%s   %s" % (place.indent, line)
