@@ -1,4 +1,4 @@
-use crate::certificates::{copy_line, cut_line, logics_line, proof_line};
+use crate::certificates::{copy_line, cut_line, logics_line, proof_line, shrunk_lines};
 use crate::chains::chain_line;
 use crate::closures::closure_line;
 use crate::formulas::{pool_line, print_line, replace_line, tree_line};
@@ -7,11 +7,13 @@ use crate::interpolants::interpolant_line;
 use crate::models::{class_line, facts_line, rows_line, sheet_of, spare_line, truth_line};
 use crate::numbers::number;
 use crate::pools::{boxes_line, doubled_line, released_line, renamed_line};
+use crate::quotients::smallest_line;
 use crate::runs::left_line;
 use crate::scripts::{script_cuts_line, script_line, script_tree_line};
 use crate::setting::Setting;
 use crate::texts::{chars_line, read_line, token_line};
 use crate::top_call::{run_cuts_line, run_line};
+use crate::traces::trace_line;
 use crate::unanswered::Unanswered;
 use crate::values::{equal_line, list_line, print_values_line, value_line};
 use crate::variables::variables_line;
@@ -35,10 +37,14 @@ pub fn written(setting: &mut Setting, verb: &str, rest: &str) -> Result<Vec<u8>,
         "run-cuts" => Ok(run_cuts_line(setting, rest)?.into_bytes()),
         "chain" => Ok(chain_line(setting.alloc, logic_of(rest)?)?.into_bytes()),
         "logics" => logics_line(setting),
+        "shrunk" => shrunk_lines(setting),
         "boxes" | "released" | "doubled" | "renamed" => of_number(setting.alloc, verb, rest),
         "nnf" | "simplify" | "boxdot" => image_line(setting.alloc, verb, rest.as_bytes()),
         "goedel" => goedel_line(setting.alloc, rest.as_bytes()),
-        "rows" | "facts" | "class" | "truth" | "spare" => of_model(setting, verb, rest),
+        "trace" => trace_line(setting.alloc, rest.as_bytes()),
+        "rows" | "facts" | "class" | "truth" | "spare" | "smallest" => {
+            of_model(setting, verb, rest)
+        }
         "script" | "script-tree" | "script-cuts" | "left" => {
             of_script(setting.alloc, &setting.text, verb)
         }
@@ -88,6 +94,7 @@ fn of_model(setting: &Setting, verb: &str, rest: &str) -> Result<Vec<u8>, Unansw
         "rows" => rows_line(alloc, &sheet)?,
         "facts" => facts_line(alloc, &sheet)?,
         "class" => class_line(alloc, &sheet)?,
+        "smallest" => smallest_line(alloc, &sheet)?,
         _ => truth_line(alloc, &setting.text, &sheet)?,
     };
     Ok(line.into_bytes())

@@ -6,7 +6,7 @@ ghost use Rattle.lw_cases.specs.Certified.{certificate_of};
 use crate::formulas::entered;
 use crate::repeats::{add_repeat, repeat_list};
 use crate::setting::Setting;
-use crate::top_call::both_lines;
+use crate::top_call::{both_lines, shrunk_line};
 use crate::unanswered::Unanswered;
 use lw_cert::{Body, CertFault, Certificate, certificate_text, read_certificate};
 use lw_counter::Answer;
@@ -73,6 +73,22 @@ pub fn logics_line(setting: &Setting) -> Result<Vec<u8>, Unanswered> {
     let mut line = Vec::new(setting.alloc);
     for logic in &LOGICS {
         line.extend_from_slice(&logic_line(setting, *logic)?)?;
+    }
+    Ok(line)
+}
+
+// What `check` writes in the logic of the certificate with the smallest model.
+fn shrunk_in(setting: &Setting, logic: Logic) -> Result<Vec<u8>, AllocError> {
+    let mut line = format!(in setting.alloc; "{}: ", logic.word())?.into_bytes();
+    line.extend_from_slice(&shrunk_line(setting, logic)?)?;
+    Ok(line)
+}
+
+/// In each logic what `check` writes of the certificate of the text that a script prints with the smallest model.
+pub fn shrunk_lines(setting: &Setting) -> Result<Vec<u8>, Unanswered> {
+    let mut line = Vec::new(setting.alloc);
+    for logic in &LOGICS {
+        line.extend_from_slice(&shrunk_in(setting, *logic)?)?;
     }
     Ok(line)
 }

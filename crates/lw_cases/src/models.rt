@@ -36,8 +36,8 @@ fn list_entry(entries: &mut Vec<Entry>, entry: Entry) -> Result<(), AllocError> 
     Ok(())
 }
 
-// The model without the entry of this number, from 0, or whole.
-fn built(alloc: Global, sheet: &Sheet, left_out: Option<usize>) -> Result<Model, Unanswered> {
+/// The model without the entry of this number, from 0, or whole.
+pub fn built(alloc: Global, sheet: &Sheet, left_out: Option<usize>) -> Result<Model, Unanswered> {
     if sheet.worlds == 0 {
         return Err(Unanswered);
     }

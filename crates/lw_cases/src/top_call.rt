@@ -84,3 +84,22 @@ pub fn both_lines(setting: &Setting, logic: Logic) -> Result<Vec<u8>, AllocError
     line.extend_from_slice(&run_line(&shown, "check file")?)?;
     Ok(line)
 }
+
+// A script that prints the certificate of the setting's text, a formula, with the smallest model.
+fn shrinking_script(setting: &Setting, logic: Logic) -> Result<Vec<u8>, AllocError> {
+    let alloc = setting.alloc;
+    let word = logic.word();
+    let mut script = format!(in alloc; "print smallest(certificate({word}, ")?.into_bytes();
+    script.extend_from_slice(&setting.text)?;
+    script.extend_from_slice(b"));")?;
+    Ok(script)
+}
+
+/// What `check` writes of what that script prints.
+pub fn shrunk_line(setting: &Setting, logic: Logic) -> Result<Vec<u8>, AllocError> {
+    let alloc = setting.alloc;
+    let (_, certificate) = run_text(alloc, shrinking_script(setting, logic)?, "run file")?;
+    let mut shown = Setting::new(alloc);
+    shown.text = certificate;
+    run_line(&shown, "check file")
+}

@@ -7,7 +7,7 @@ use Rattle.lw_trans.specs.declared.connective.Connective.TheVariants as connecti
 use Rattle.lw_ast.specs.declared.fault.SyntaxWhy.{SyntaxWhy}
 use Rattle.lw_ast.specs.declared.fault.SyntaxWhy.TheVariants.{Unexpected, Nested, Name, Number}
 use Rattle.lw_eval.specs.declared.trouble.Trouble.{Trouble}
-use Rattle.lw_eval.specs.declared.trouble.Trouble.TheVariants.{TextLimit, TooLarge, NoInterpolants, NotModalised, TooManyBoxes, NotIntuitionistic, Unbound, Kind, Range, StepLimit}
+use Rattle.lw_eval.specs.declared.trouble.Trouble.TheVariants.{TextLimit, TooLarge, NoInterpolants, NotModalised, TooManyBoxes, NotIntuitionistic, NotLetterless, Unbound, Kind, Range, StepLimit}
 
 -- of a file that is too long
 abbrev pub file_limit_line : List ℕ
@@ -39,6 +39,7 @@ trouble_words (NoInterpolants l) = codes "no interpolants " ++ logic.word_of l
 trouble_words NotModalised = codes "not modalised"
 trouble_words (TooManyBoxes n) = codes "too many boxes " ++ decimal n
 trouble_words (NotIntuitionistic what) = codes "not intuitionistic " ++ connective_word what
+trouble_words (NotLetterless p) = codes "not letterless " ++ p
 trouble_words (Unbound x) = codes "unbound " ++ x
 trouble_words Kind = codes "kind"
 trouble_words Range = codes "range"

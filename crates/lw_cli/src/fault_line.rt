@@ -66,6 +66,7 @@ fn trouble_words(alloc: Global, trouble: &Trouble) -> Result<Vec<u8>, AllocError
                 connective_word(*what).as_bytes(),
             )
         }
+        Trouble::NotLetterless { name } => words(alloc, "not letterless ", name.as_bytes()),
         Trouble::Unbound { name } => words(alloc, "unbound ", name.as_bytes()),
         Trouble::Kind => words(alloc, "kind", b""),
         Trouble::Range => words(alloc, "range", b""),
