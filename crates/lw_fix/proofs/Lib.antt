@@ -8,4 +8,6 @@ pub mod BareOccurrences
 pub mod BareMarks
 pub mod ImagesFound
 pub mod OutermostFound
+pub mod BoxImages
 pub mod SolvedFormulas
+pub mod BuiltFixedPoints

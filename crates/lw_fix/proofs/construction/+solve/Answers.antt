@@ -3,12 +3,14 @@ use Rattle.std.specs.List.{remove}
 use Rattle.std.proofs.lemmas.List.{get_or_default}
 use Rattle.std.proofs.lemmas.List.Edits.{length-remove}
 use Rattle.std.proofs.lemmas.List.Elements.{Contains-get_or}
-use Rattle.lw_pool.specs.Region.{tree_at, IsAt, Grows}
+use Rattle.lw_pool.specs.Region.{tree_at}
 use Rattle.lw_pool.proofs.RegionGrowth.{Grows-trans}
 use Rattle.lw_fix.specs.declared.image.Image.{Image}
 use Rattle.lw_fix.specs.Private.Images.{AreImagesLive}
 use Rattle.lw_fix.specs.Private.Solved.{AreSolved}
-use Rattle.lw_fix.proofs.SolvedFormulas.{AreBuilt, AreSolved-grows, rest_of, boxes-taken, left-live, kept-point, kept-more, built-grows, built-live, built-step, image-made, point-made}
+use Rattle.lw_fix.proofs.BoxImages.{rest_of, boxes-taken, left-live}
+use Rattle.lw_fix.proofs.SolvedFormulas.{AreSolved-grows, kept-point, kept-more}
+use Rattle.lw_fix.proofs.BuiltFixedPoints.{AreBuilt, built-grows, built-live, built-step, image-made, point-made}
 use Rattle.lw_fix.proofs.construction.+solve.Goals as goal
 
 -- what is read where nothing stands

@@ -1,7 +1,8 @@
 use Rattle.std.proofs.Common.{length}
 use Rattle.lw_pool.specs.Region.{tree_at, Grows}
 use Rattle.lw_fix.specs.Private.Solved.{AreSolved}
-use Rattle.lw_fix.proofs.SolvedFormulas.{AreBuilt, rest_of}
+use Rattle.lw_fix.proofs.BoxImages.{rest_of}
+use Rattle.lw_fix.proofs.BuiltFixedPoints.{AreBuilt}
 use Rattle.lw_fix.proofs.construction.+solve.Given as goal
 
 abbrev pub decreases-solve : goal.decreases-solve

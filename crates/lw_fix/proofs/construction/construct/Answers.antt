@@ -1,4 +1,4 @@
-use Rattle.std.proofs.Common.{◌∙◌, sym, ap, subst}
+use Rattle.std.proofs.Common.{◌∙◌, sym, subst}
 use Rattle.std.specs.Result.{IfOk}
 use Rattle.std.proofs.lemmas.List.Elements.{Contains-get_or}
 use Rattle.lw_formula.specs.Formula.{Formula}
@@ -6,7 +6,7 @@ use Rattle.lw_pool.specs.Region.{tree_at, IsAt}
 use Rattle.lw_fix.specs.FixedPoint.{fix}
 use Rattle.lw_fix.specs.Private.Solved.{AreBoxes}
 use Rattle.lw_fix.proofs.OutermostFormulas.{at_self}
-use Rattle.lw_fix.proofs.SolvedFormulas.{boxes-found}
+use Rattle.lw_fix.proofs.BoxImages.{boxes-found}
 use Rattle.lw_fix.proofs.construction.construct.Goals as goal
 
 pub defaults-requires : goal.defaults-requires
