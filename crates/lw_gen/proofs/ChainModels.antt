@@ -1,13 +1,12 @@
 -- Chains of worlds that refute the families of transitive and of reflexive frames.
-use Rattle.std.proofs.Common.{◌≡◌, ◌≤◌, ◌<◌, ◌+◌, ℕ, zero, suc, List, [], ◌∷◌, ◌++◌, codes, ⊎_elim, ap, sym, subst, arith}
+use Rattle.std.proofs.Common.{◌≡◌, ◌≤◌, ◌<◌, ◌+◌, ℕ, zero, suc, List, ◌++◌, codes, ⊎_elim, ap, arith}
 use Rattle.std.specs.List.{Contains}
-use Rattle.std.proofs.lemmas.Bool.{cases_eq}
-use Rattle.std.proofs.lemmas.List.Elements.{All-nil, Contains-append_left, Contains-append_right, Contains-append_cases}
+use Rattle.std.proofs.lemmas.List.Elements.{Contains-append_left, Contains-append_right, Contains-append_cases}
 use Rattle.lw_formula.specs.declared.logic.Logic.TheVariants.{K, KT, GL}
-use Rattle.lw_formula.specs.FiniteModel.{FiniteModel, IsWellFormed, Sees, AreDistinct}
+use Rattle.lw_formula.specs.FiniteModel.{FiniteModel, IsWellFormed, Sees}
 use Rattle.lw_formula.specs.Truth.{IsTrueAt}
 use Rattle.lw_formula.specs.Validity.{Valid}
-use Rattle.lw_formula.proofs.ListMembers.{Contains-nil, Contains-head, Contains-tail, Contains-cons_cases, All-members, AreDistinct-nil, AreDistinct-cons, AreDistinct-append}
+use Rattle.lw_formula.proofs.ListMembers.{Contains-nil, All-members, AreDistinct-append}
 use Rattle.lw_fix.proofs.StrictOrders.{each, each-cases, each-has, each-distinct, order, rises, rising, order-IsWellFormed, order-Class}
 use Rattle.lw_gen.specs.declared.families.Family.TheVariants.{Transitive, Reflexive}
 use Rattle.lw_gen.specs.Families.{p, boxes, family_formula}

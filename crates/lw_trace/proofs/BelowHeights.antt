@@ -1,12 +1,12 @@
 -- The list of the heights below one, and what tests of all or some of them decide.
-use Rattle.std.proofs.Common.{◌≡◌, ℕ, zero, suc, ◌+◌, ◌-◌, ◌<◌, ◌≤◌, Bool, true, false, cond, List, [], ◌∷◌, ◌++◌, length, get_or, ◌↔◌, refl, sym, ap, ◌∙◌, subst, arith}
+use Rattle.std.proofs.Common.{◌≡◌, ℕ, zero, suc, ◌+◌, ◌-◌, ◌<◌, ◌≤◌, Bool, true, false, cond, List, [], ◌∷◌, ◌++◌, ◌↔◌, refl, ap, ◌∙◌, arith}
 use Rattle.std.specs.Bool.{Decides}
 use Rattle.std.specs.List.{Contains, filter, list_all, list_any, range_with_len}
 use Rattle.std.proofs.lemmas.Bool.Decides.{Decides-like}
 use Rattle.std.proofs.lemmas.List.{append-nil}
 use Rattle.std.proofs.lemmas.List.Elements.{filter-append}
 use Rattle.std.proofs.lemmas.List.FromFn.{length-range_with_len, get_or-range_with_len}
-use Rattle.lw_formula.proofs.ListMembers.{Contains-nil, Contains-head, Contains-tail}
+use Rattle.lw_formula.proofs.ListMembers.{Contains-head, Contains-tail}
 use Rattle.lw_formula.proofs.ListTests.{list_all-Decides, list_any-Decides}
 use Rattle.lw_trace.specs.LetterlessTruth.{heights_below}
 

@@ -1,5 +1,5 @@
 -- A formula has more distinct subformulas than its modal depth.
-use Rattle.std.proofs.Common.{◌≡◌, ◌+◌, ◌<◌, ◌≤◌, List, [], ◌∷◌, length, ◌⊎◌, inl, inr, arith, length-append}
+use Rattle.std.proofs.Common.{◌<◌, ◌≤◌, [], ◌∷◌, inl, inr, arith, length-append}
 use Rattle.lw_formula.specs.Formula.{Formula, letter, falsum, verum, neg, conj, disj, impl, equi, nec, poss, depth, IsSubformula, subformulas, subformula_count}
 use Rattle.lw_formula.proofs.SubformulaLists.{subformulas-IsSubformula, subformulas-AreDistinct}
 use Rattle.lw_pool.proofs.EqualLengths.{length-le_from_members}

@@ -1,11 +1,11 @@
 -- The first variable of a formula is the first of the list of its variables in byte order.
-use Rattle.std.proofs.Common.{◌≡◌, ℕ, suc, ◌+◌, ◌<◌, Option, Some, None, List, [], ◌∷◌, get_or, ◌⊎◌, inl, inr, ⊎_elim, refl, sym, ap, subst, arith}
-use Rattle.std.specs.List.{Contains, slice_get}
+use Rattle.std.proofs.Common.{◌≡◌, ℕ, suc, Some, None, List, [], ◌∷◌, inl, inr, ⊎_elim, sym, subst, arith}
+use Rattle.std.specs.List.{slice_get}
 use Rattle.std.specs.Ordering.{nat_cmp}
 use Rattle.std.specs.Cmp.Lexicographic.{slice_cmp}
 use Rattle.std.specs.declared.cmp.Ordering.TheVariants.{Less}
 use Rattle.lw_formula.specs.Formula.{Formula}
-use Rattle.lw_formula.specs.Variables.{Occurs, AreVariables}
+use Rattle.lw_formula.specs.Variables.{AreVariables}
 use Rattle.lw_formula.proofs.ListMembers.{Contains-nil, Contains-head, Contains-cons_cases}
 use Rattle.lw_trace.specs.LetterlessTruth.{IsLetterless}
 use Rattle.lw_trace.specs.TraceFaults.{IsFirstVariable}

@@ -1,12 +1,12 @@
 -- Rows of truth values are made of those of the operands.
-use Rattle.std.proofs.Common.{◌≡◌, ℕ, zero, suc, ◌+◌, ◌<◌, ◌≤◌, Bool, true, false, not, ◌&&◌, ◌||◌, List, [], ◌∷◌, ◌++◌, length, map, get_or, take, replicate, refl, sym, ap, ◌∙◌, arith}
+use Rattle.std.proofs.Common.{◌≡◌, ℕ, zero, suc, ◌+◌, Bool, true, false, not, ◌&&◌, ◌||◌, List, [], ◌∷◌, ◌++◌, map, get_or, take, replicate, refl, sym, ap, ◌∙◌, arith}
 use Rattle.std.specs.Bool.{beq}
-use Rattle.std.specs.List.{filter, zip, list_all, list_any, enumerate_from, range_with_len}
+use Rattle.std.specs.List.{zip, list_all, list_any, range_with_len}
 use Rattle.std.proofs.lemmas.List.Folds.{list_all-map}
 use Rattle.std.proofs.lemmas.List.FromFn.{length-map-range_with_len, get_or-map-range_with_len, take-map-range_with_len, map-range_with_len_more}
 use Rattle.std.proofs.lemmas.Simd.{map-map}
 use Rattle.lw_formula.specs.Formula.{Formula, letter, falsum, verum, neg, conj, disj, impl, equi, nec, poss, depth}
-use Rattle.lw_trace.specs.LetterlessTruth.{holds_at, rest, exceptions, heights_below, TruthByHeight, trace_of}
+use Rattle.lw_trace.specs.LetterlessTruth.{holds_at, rest, heights_below, trace_of}
 use Rattle.lw_trace.specs.Private.TruthRows.{truth_row, all_before, some_before, places_apart, read_off}
 use Rattle.lw_trace.proofs.BelowHeights.{heights_below-Contains, filter-heights_below}
 use Rattle.lw_trace.proofs.MappedLists.{map-same, list_any-map, map-zip, places-filter}

@@ -1,5 +1,6 @@
 //! Laws of the truth of formulas without variables. Each function does nothing: its clause is the law, which is proved.
-ghost use Rattle.lw_trace.specs.Laws.{HeightsAreExact, TruthGoesByHeight, TruthSettles, TraceDecides, FormIsEquivalent, FormIsUnique, FormIsLetterless};
+ghost use Rattle.lw_trace.specs.Laws.{HeightsAreExact, TruthGoesByHeight, TruthSettles, TraceDecides};
+ghost use Rattle.lw_trace.specs.Laws.{FormIsEquivalent, FormIsUnique, FormIsLetterless};
 
 /// In each model of GL's class a world that sees none has height 0, and another has one more than the greatest height
 /// that it sees.

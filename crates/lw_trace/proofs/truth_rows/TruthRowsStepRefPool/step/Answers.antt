@@ -1,7 +1,7 @@
 use Rattle.std.proofs.Common.{◌≡◌, Bool, List, not, ◌&&◌, ◌||◌, map, IfOk, inl, inr, ⊎_elim, refl, sym, ap, subst, ◌∙◌}
 use Rattle.std.specs.Bool.{beq}
 use Rattle.std.specs.List.{zip}
-use Rattle.lw_formula.specs.Formula.{letter, falsum, verum, neg, conj, disj, impl, equi, nec, poss, IsOperand}
+use Rattle.lw_formula.specs.Formula.{verum, neg, conj, disj, impl, equi, nec, poss, IsOperand}
 use Rattle.lw_pool.specs.Region.{tree_at, tree_of_node, AreChildrenBelow}
 use Rattle.lw_trace.specs.Private.TruthRows.{truth_row, all_before, some_before}
 use Rattle.lw_trace.proofs.RowTruth.{letter_row, falsum_row, verum_row, neg_row, conj_row, disj_row, impl_row, equi_row, nec_row, poss_row}
