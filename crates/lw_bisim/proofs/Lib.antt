@@ -8,6 +8,7 @@ pub mod LeastWorlds
 pub mod StrictClimbs
 pub mod QuotientFrames
 pub mod SmallestModels
+pub mod OneQuotient
 pub mod JoinedClasses
 pub mod SeenClasses
 pub mod NumberedKeys

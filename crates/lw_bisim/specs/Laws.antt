@@ -1,11 +1,19 @@
 -- Laws of quotients, each a fact that stands by itself.
-use Rattle.std.specs.Prelude.{◌≢◌, ℕ, ◌<◌, ◌≤◌, ◌↔◌}
+use Rattle.std.specs.Prelude.{◌≡◌, ◌≢◌, ℕ, ◌<◌, ◌≤◌, ◌↔◌, List}
 use Rattle.lw_formula.specs.declared.logic.Logic.{Logic}
 use Rattle.lw_formula.specs.Formula.{Formula}
-use Rattle.lw_formula.specs.FiniteModel.{FiniteModel, IsWellFormed}
+use Rattle.lw_formula.specs.FiniteModel.{FiniteModel, IsWellFormed, Sees, HasFact}
 use Rattle.lw_formula.specs.Class.{Class}
 use Rattle.lw_formula.specs.Truth.{IsTrueAt}
+use Rattle.lw_bisim.specs.Bisimulation.{AreBisimilar}
 use Rattle.lw_bisim.specs.Quotient.{Quotient, IsQuotient, place_of}
+
+-- worlds are bisimilar exactly where the same formulas are true at them (Hennessy and Milner, for finite models; Blackburn, de
+-- Rijke and Venema, section 2.2)
+abbrev pub BisimilarWorldsAgree : Type 0
+BisimilarWorldsAgree =
+    (m : FiniteModel) (v u : ℕ) → IsWellFormed m → v < m.worlds → u < m.worlds →
+    AreBisimilar m v u ↔ ((a : Formula) → IsTrueAt m v a ↔ IsTrueAt m u a)
 
 -- a formula is true at a world exactly where it is true at its class
 abbrev pub QuotientKeepsTruth : Type 0
@@ -36,3 +44,14 @@ pub record KeepsTruth (m n : FiniteModel) (map : ℕ → ℕ) : Type 0 where
 abbrev pub QuotientIsSmallest : Type 0
 QuotientIsSmallest =
     (m n : FiniteModel) (q : Quotient) (map : ℕ → ℕ) → IsWellFormed m → IsQuotient m q → KeepsTruth m n map → q.model.worlds ≤ n.worlds
+
+-- the same classes, and the same relation and letters between them
+pub record IsSameQuotient (q r : Quotient) : Type 0 where
+  pub places : q.places ≡ r.places
+  pub worlds : q.model.worlds ≡ r.model.worlds
+  pub sees : (c d : ℕ) → Sees q.model c d ↔ Sees r.model c d
+  pub letters : (c : ℕ) (p : List ℕ) → HasFact q.model c p ↔ HasFact r.model c p
+
+-- a model has one quotient, but for the order of its lists
+abbrev pub QuotientIsOne : Type 0
+QuotientIsOne = (m : FiniteModel) (q r : Quotient) → IsQuotient m q → IsQuotient m r → IsSameQuotient q r

@@ -1,5 +1,10 @@
 //! Laws of quotients. Each function does nothing: its clause is the law, which is proved.
-ghost use Rattle.lw_bisim.specs.Laws.{QuotientKeepsTruth, QuotientKeepsClass, QuotientWorldsDiffer, QuotientIsSmallest};
+ghost use Rattle.lw_bisim.specs.Laws.{BisimilarWorldsAgree, QuotientKeepsTruth, QuotientKeepsClass, QuotientWorldsDiffer, QuotientIsSmallest, QuotientIsOne};
+
+/// Two worlds of a model are bisimilar exactly where the same formulas are true at them.
+pub fn bisimilar_worlds_agree()
+    ensures { BisimilarWorldsAgree }
+{}
 
 /// At a world of a model and at its class the same formulas are true.
 pub fn quotient_keeps_truth()
@@ -20,4 +25,9 @@ pub fn quotient_worlds_differ()
 /// as the other's quotient.
 pub fn quotient_is_smallest()
     ensures { QuotientIsSmallest }
+{}
+
+/// A model has one quotient: its classes are numbered in one way, and are in one relation, with one set of variables each.
+pub fn quotient_is_one()
+    ensures { QuotientIsOne }
 {}
