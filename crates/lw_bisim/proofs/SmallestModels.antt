@@ -6,7 +6,7 @@ use Rattle.lw_formula.specs.Truth.{IsTrueAt}
 use Rattle.std.specs.List.{Contains}
 use Rattle.lw_bisim.specs.Bisimulation.{IsBisimulation}
 use Rattle.lw_bisim.specs.Quotient.{Quotient, IsQuotient, place_of}
-use Rattle.lw_bisim.specs.Laws.{BisimilarWorldsAgree, QuotientKeepsTruth, QuotientKeepsClass, QuotientWorldsDiffer, QuotientIsSmallest}
+use Rattle.lw_bisim.specs.Laws.{BisimilarWorldsAgree, QuotientKeepsTruth, QuotientKeepsClass, QuotientRefutes, QuotientWorldsDiffer, QuotientIsSmallest}
 use Rattle.lw_bisim.proofs.TruthKept.{same_truth}
 use Rattle.lw_bisim.proofs.TellingFormulas.{Differ}
 use Rattle.lw_bisim.proofs.StillRounds.{bisimilar_or_differ}
@@ -27,6 +27,15 @@ truth_kept m q ok h v l a = same_truth a m q.model (IsOf m q ok h) (class_GoesFo
 
 pub class_kept_by_quotient : QuotientKeepsClass
 class_kept_by_quotient logic m q h c = class_kept m q c.well_formed h logic c.frame
+
+pub refutation_kept : QuotientRefutes
+refutation_kept logic m q w a h r =
+    let places : length q.places ≡ m.worlds = h.placed in
+    let within : w < m.worlds = r.within in record {
+      in_class = class_kept_by_quotient logic m q h r.in_class;
+      within = h.numbered.below w 0 (omega arith);
+      fails = λ t. r.fails ((truth_kept m q r.in_class.well_formed h w within a).1 t);
+    }
 
 -- worlds of different classes differ
 classes_differ : (m : FiniteModel) (q : Quotient) → IsWellFormed m → IsQuotient m q → (v u : ℕ) → v < m.worlds → u < m.worlds → place_of q.places v ≢ place_of q.places u → Differ m v u

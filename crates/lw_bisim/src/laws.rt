@@ -1,5 +1,6 @@
-//! Laws of quotients. Each function does nothing: its clause is the law, which is proved.
-ghost use Rattle.lw_bisim.specs.Laws.{BisimilarWorldsAgree, QuotientKeepsTruth, QuotientKeepsClass, QuotientWorldsDiffer, QuotientIsSmallest, QuotientIsOne};
+//! Laws of bisimilar worlds and of quotients. Each function does nothing: its clause is the law, which is proved.
+ghost use Rattle.lw_bisim.specs.Laws.{BisimilarWorldsAgree, QuotientKeepsTruth, QuotientKeepsClass, QuotientRefutes};
+ghost use Rattle.lw_bisim.specs.Laws.{QuotientWorldsDiffer, QuotientIsSmallest, QuotientIsOne};
 
 /// Two worlds of a model are bisimilar exactly where the same formulas are true at them.
 pub fn bisimilar_worlds_agree()
@@ -14,6 +15,11 @@ pub fn quotient_keeps_truth()
 /// The quotient of a model of a logic's class is of that class, in each of the six logics.
 pub fn quotient_keeps_class()
     ensures { QuotientKeepsClass }
+{}
+
+/// So a formula that a model of a logic's class refutes at a world is refuted by the quotient at the world's class.
+pub fn quotient_refutes()
+    ensures { QuotientRefutes }
 {}
 
 /// Of two worlds of a quotient, some formula is true at the first and false at the second.
