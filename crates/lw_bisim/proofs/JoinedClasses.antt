@@ -1,11 +1,10 @@
 -- Models that grow by what classes of worlds see and by their letters.
-use Rattle.std.proofs.Common.{◌≡◌, ℕ, ◌+◌, ◌<◌, ◌≤◌, List, [], ◌∷◌, ◌++◌, length, get_or, take, ◌⊎◌, ◌↔◌, inl, inr, ⊎_elim, refl, ap, sym, subst, ◌∙◌, arith}
+use Rattle.std.proofs.Common.{◌≡◌, ℕ, ◌+◌, ◌<◌, List, [], ◌∷◌, ◌++◌, length, get_or, take, ◌⊎◌, ◌↔◌, inl, inr, ⊎_elim, refl, ap, sym, subst, ◌∙◌, arith}
 use Rattle.std.specs.List.{Contains}
 use Rattle.std.proofs.lemmas.Bool.{cases_eq}
-use Rattle.std.proofs.lemmas.List.{take_more, take_all}
+use Rattle.std.proofs.lemmas.List.{take_more}
 use Rattle.std.proofs.lemmas.List.Elements.{Contains-append_left, Contains-push, Contains-push_cases}
 use Rattle.lw_formula.specs.FiniteModel.{FiniteModel, Sees, HasFact}
-use Rattle.lw_formula.proofs.ListMembers.{Contains-nil}
 use Rattle.lw_model.specs.Edits.{AddsPair, AddsFact}
 use Rattle.lw_bisim.specs.Quotient.{place_of}
 use Rattle.lw_bisim.specs.Private.Joined.{AddsSeen, AddsNames, IsJoinedTo}
@@ -21,13 +20,7 @@ more_members xs i d x l = (
       h),
 )
 
-pub names_none : (m : FiniteModel) (c : ℕ) → AddsNames m c [] m
-names_none m c = record {
-  worlds = refl;
-  pairs = refl;
-  facts = λ a p. (λ x. inl x, λ x. ⊎_elim (λ old. old) (λ new. absurd (Contains-nil p new.1)) x);
-}
-
+-- a letter more
 pub names_more : (m k j : FiniteModel) (c i : ℕ) (names : List (List ℕ)) (d : List ℕ) → AddsNames m c (take i names) k → i < length names → AddsFact k c (get_or names i d) j → AddsNames m c (take (i + 1) names) j
 names_more m k j c i names d a l h = record {
   worlds = h.worlds ∙ a.worlds;
@@ -47,17 +40,8 @@ names_more m k j c i names d a l h = record {
   );
 }
 
-pub names_all : (m k : FiniteModel) (c i : ℕ) (names : List (List ℕ)) → AddsNames m c (take i names) k → length names ≤ i → AddsNames m c names k
-names_all m k c i names a l = subst (λ xs. AddsNames m c xs k) (take_all i names l) a
-
 module _ (places : List ℕ) where
-  pub seen_none : (m : FiniteModel) (c : ℕ) → AddsSeen places m c [] m
-  seen_none m c = record {
-    worlds = refl;
-    facts = refl;
-    sees = λ a b. (λ x. inl x, λ x. ⊎_elim (λ old. old) (λ new. absurd (Contains-nil new.1.0 new.1.1)) x);
-  }
-
+  -- the class of a world more
   pub seen_more : (m k j : FiniteModel) (c i : ℕ) (seen : List ℕ) → AddsSeen places m c (take i seen) k → i < length seen → AddsPair k c (place_of places (get_or seen i 0)) j → AddsSeen places m c (take (i + 1) seen) j
   seen_more m k j c i seen a l h = record {
     worlds = h.worlds ∙ a.worlds;
@@ -79,9 +63,6 @@ module _ (places : List ℕ) where
           x,
     );
   }
-
-  pub seen_all : (m k : FiniteModel) (c i : ℕ) (seen : List ℕ) → AddsSeen places m c (take i seen) k → length seen ≤ i → AddsSeen places m c seen k
-  seen_all m k c i seen a l = subst (λ xs. AddsSeen places m c xs k) (take_all i seen l) a
 
 -- a world more, with its class
 pub joined_more : (m : FiniteModel) (places : List ℕ) (count i c : ℕ) (j k l : FiniteModel) (ws : List ℕ) (names : List (List ℕ)) → IsJoinedTo m places count i j → place_of places i ≡ c →

@@ -12,6 +12,7 @@ pub each_more : {X : Type 0} (P : ℕ → X → Type 0) (xs : List X) (x : X) (n
 each_more P xs x n long each last i d l =
     each_push P xs x (λ k e b. each k e (omega (arith, long))) (subst (λ k. P k x) (sym long) last) i d (omega (arith, long, length_push xs x))
 
+-- where equal keys tell of a relation, the classes are those of the relation
 pub classes_of : {K : Type 0} (eq : K → K → Bool) (m : FiniteModel) (related : ℕ → ℕ → Type 0) (keys : List K) (places : List ℕ) (count : ℕ) → length keys ≡ m.worlds →
     ((v u : ℕ) (d : K) → v < m.worlds → u < m.worlds → (eq (get_or keys v d) (get_or keys u d) ≡ true) ↔ related v u) → AreClassesBy eq keys places count → AreClassesOf m related places count
 classes_of {K} eq m related keys places count long told h = record {

@@ -7,7 +7,8 @@ pub mod Injections
 pub mod LeastWorlds
 pub mod StrictClimbs
 pub mod QuotientFrames
-pub mod SmallestModels
+pub mod QuotientLaws
+pub mod OneQuotient
 pub mod JoinedClasses
 pub mod SeenClasses
 pub mod NumberedKeys

@@ -22,6 +22,7 @@ last_or_before : (places : List ℕ) (p v : ℕ) → v < length (places ++ p ∷
 last_or_before places p v l =
     ⊎_elim (λ b. inl b) (λ ge. inr (omega (arith, length_push places p))) (cases_lt v (length places))
 
+-- the least world of a class stays so
 least_stays : (places : List ℕ) (p c v : ℕ) → IsLeastOf places c v → IsLeastOf (places ++ p ∷ []) c v
 least_stays places p c v h =
     let w : v < length places = h.within in record {
@@ -97,18 +98,6 @@ module _ {K : Type 0} (eq : K → K → Bool) (laws : IsEquivalence eq) where
 
   trans : (x y z : K) → eq x y ≡ true → eq y z ≡ true → eq x z ≡ true
   trans x y z e f = laws.congr x y z e ∙ f
-
-  pub none_numbered : AreNumberedBy [] [] []
-  none_numbered = record {
-    long = refl;
-    numbered = record {
-      below = λ k d l. let bad : ⊥ = omega arith in absurd bad;
-      taken = λ c l. let bad : ⊥ = omega arith in absurd bad;
-      ordered = λ c d v u x y l. let bad : v < 0 = x.within in absurd (omega arith);
-    };
-    known_at = λ i d l. let bad : ⊥ = omega arith in absurd bad;
-    apart = λ i j d l m e. let bad : ⊥ = omega arith in absurd bad;
-  }
 
   -- no known key is equal to one that no test finds
   unknown : (known : List K) (k : K) → list_any (eq k) known ≡ false → (i : ℕ) (d : K) → i < length known → eq k (get_or known i d) ≡ true → ⊥
@@ -203,6 +192,7 @@ module _ {K : Type 0} (eq : K → K → Bool) (laws : IsEquivalence eq) where
       at_place : (d : K) → eq k (get_or new p d) ≡ true
       at_place d = subst (λ x. eq k x ≡ true) (sym (get_or_from_slice_get new p stored.0 d stored.1)) stored.2
 
+  -- where all are numbered, those with equal keys are of one class
   pub numbered_all : (keys known : List K) (places : List ℕ) → AreNumberedBy keys known places → AreClassesBy eq keys places (length known)
   numbered_all keys known places h = record {
     placed = h.long;

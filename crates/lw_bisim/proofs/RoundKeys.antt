@@ -25,6 +25,7 @@ pub record AreLettersOf (m : FiniteModel) (v : ℕ) (names : List (List ℕ)) : 
   pub exact : (p : List ℕ) → Contains names p ↔ HasFact m v p
   pub ordered : IsStrictlySortedBy (slice_cmp nat_cmp) names
 
+-- lists of letters are equal where the letters are the same
 pub letters_same : (m : FiniteModel) (v u : ℕ) (ps qs : List (List ℕ)) → AreLettersOf m v ps → AreLettersOf m u qs → (ps ≡ qs) ↔ HaveSameLetters m v u
 letters_same m v u ps qs h k = (
   λ e p. (λ f. (k.exact p).0 (subst (λ xs. Contains xs p) e ((h.exact p).1 f)), λ f. (h.exact p).0 (subst (λ xs. Contains xs p) (sym e) ((k.exact p).1 f))),

@@ -54,6 +54,7 @@ follows-Decides m test related each v u =
     (λ p. Decides-implies (p.0 == v) (sees_like m test u m.pairs p.1) (Decides-eqb p.0 v) (sees_like-Decides m test related each u p.1))
     m.pairs)
 
+-- the test decides
 pub alike-Decides : (m : FiniteModel) (k v u : ℕ) → Decides (alike m k v u) (AreAlike m k v u)
 alike-Decides m zero v u =
     Decides-like (alike m zero v u)

@@ -27,6 +27,7 @@ alike_pairs m k = filter (are_alike m k) (pairs_below m.worlds m.worlds)
 alike_before : (m : FiniteModel) (k : ℕ) (p : ℕ × ℕ) → are_alike m (suc k) p ≡ true → are_alike m k p ≡ true
 alike_before m k p e = (alike-Decides m k p.0 p.1).1 ((alike-Decides m (suc k) p.0 p.1).0 e).0
 
+-- some round is the last that splits a class
 pub still_round : (m : FiniteModel) → (k : ℕ) × IsStill m k
 unfolding alike_pairs
 still_round m =

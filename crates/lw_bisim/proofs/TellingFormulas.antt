@@ -54,7 +54,7 @@ letters_differ m v u e =
       ),
     )
 
--- a formula that is true at w and at no world that u sees
+-- the formula is true at w and at none of the worlds that u sees
 abbrev FailsAtSeen : FiniteModel → List (ℕ × ℕ) → ℕ → ℕ → Formula → Type 0
 FailsAtSeen m ps u w a = IsTrueAt m w a × ((x : ℕ) → Contains ps (u, x) → ¬ IsTrueAt m x a)
 

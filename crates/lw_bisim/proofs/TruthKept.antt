@@ -4,11 +4,13 @@ use Rattle.lw_formula.specs.Formula.{Formula, letter, falsum, verum, neg, conj, 
 use Rattle.lw_formula.specs.FiniteModel.{FiniteModel, Sees, HasFact}
 use Rattle.lw_formula.specs.Truth.{IsTrueAt}
 
+-- related worlds have the same letters, and what one of them sees is related to something that the other sees
 pub record GoesForthAndBack (m n : FiniteModel) (related : ℕ → ℕ → Type 0) : Type 0 where
   pub letters : (v u : ℕ) → related v u → (p : List ℕ) → HasFact m v p ↔ HasFact n u p
   pub forth : (v u w : ℕ) → related v u → Sees m v w → (x : ℕ) × Sees n u x × related w x
   pub back : (v u x : ℕ) → related v u → Sees n u x → (w : ℕ) × Sees m v w × related w x
 
+-- so they have the same truths (Blackburn, de Rijke and Venema, theorem 2.20)
 pub same_truth : (a : Formula) (m n : FiniteModel) (related : ℕ → ℕ → Type 0) → GoesForthAndBack m n related → (v u : ℕ) → related v u → IsTrueAt m v a ↔ IsTrueAt n u a
 same_truth (letter p) m n r h v u z = h.letters v u z p
 same_truth falsum m n r h v u z = (λ x. x, λ x. x)

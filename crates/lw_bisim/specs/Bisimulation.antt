@@ -6,8 +6,7 @@ use Rattle.lw_formula.specs.FiniteModel.{FiniteModel, Sees, HasFact}
 abbrev pub HaveSameLetters : FiniteModel → ℕ → ℕ → Type 0
 HaveSameLetters m v u = (p : List ℕ) → HasFact m v p ↔ HasFact m u p
 
--- z relates worlds of the model, and of two that it relates the same letters are true, and what one sees is related to
--- something that the other sees
+-- worlds that z relates have the same letters, and what one of them sees is related to something that the other sees
 pub record IsBisimulation (m : FiniteModel) (z : List (ℕ × ℕ)) : Type 0 where
   pub within : All (λ p. (p.0 < m.worlds) × (p.1 < m.worlds)) z
   pub letters : (v u : ℕ) → Contains z (v, u) → HaveSameLetters m v u

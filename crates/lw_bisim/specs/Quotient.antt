@@ -25,8 +25,7 @@ pub record AreNumbered (places : List ℕ) (count : ℕ) : Type 0 where
   pub taken : (c : ℕ) → c < count → (v : ℕ) × IsLeastOf places c v
   pub ordered : (c d v u : ℕ) → IsLeastOf places c v → IsLeastOf places d u → c < d → v < u
 
--- each world has a class, bisimilar worlds the same, and a class sees another where some world of it sees some world of
--- the other; at a class the letters are true that are true at its worlds
+-- q has a world for each class of bisimilar worlds of m, with their letters, and it sees the classes that they see
 pub record IsQuotient (m : FiniteModel) (q : Quotient) : Type 0 where
   pub well_formed : IsWellFormed q.model
   pub placed : length q.places ≡ m.worlds

@@ -8,6 +8,7 @@ mod quotient;
 mod rounds;
 
 pub use laws::{
-    quotient_is_smallest, quotient_keeps_class, quotient_keeps_truth, quotient_worlds_differ,
+    bisimilar_worlds_agree, quotient_is_one, quotient_is_smallest, quotient_keeps_class,
+    quotient_keeps_truth, quotient_refutes, quotient_worlds_differ,
 };
 pub use quotient::{Quotient, smallest};

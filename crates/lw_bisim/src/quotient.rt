@@ -29,7 +29,7 @@ impl Quotient {
         &self.model
     }
 
-    /// The class of a world of the other model.
+    /// The class of a world of the other model: the world here at which the same formulas are true.
     pub fn place(&self, world: usize) -> usize
         requires { world < length self.now.places }
         ensures { result ≡ place_of self.now.places world }
@@ -40,10 +40,11 @@ impl Quotient {
 
 /// The quotient of the model by its largest bisimulation: bisimilar worlds, which are those at which the same formulas are
 /// true, are put into one class, and the classes are numbered in the order of the least world in each. No smaller model has
-/// for each world of this one a world at which the same formulas are true. It fails for want of memory alone. The classes
-/// are found by rounds that split those of worlds with the same variables by the classes that they see (Blackburn, de Rijke
-/// and Venema, Modal Logic, section 2.2). There are at most as many rounds as worlds, and the work of a round is that of
-/// sorting, for each world, the classes that it sees.
+/// for each world of this one a world at which the same formulas are true (Blackburn, de Rijke and Venema, Modal Logic,
+/// section 2.2). It fails for want of memory alone. The classes of worlds with the same variables are split by the classes
+/// that their worlds see until none splits, the naive method of Kanellakis and Smolka (CCS expressions, finite state
+/// processes, and three problems of equivalence, 1990). There are at most as many rounds as worlds; the work of a round is
+/// that of sorting, for each world, the classes that it sees, and its memory that of a number for each pair.
 pub fn smallest(alloc: Global, model: &Model) -> Result<Quotient, AllocError>
     ensures { IfOk result (IsQuotient model.now) }
 {

@@ -11,8 +11,7 @@ use lw_model::Model;
 use std::alloc::{AllocError, Global};
 
 /// The classes of bisimilar worlds: those with the same variables, split by the classes that they see until no class
-/// splits. It fails for want of memory alone. There are at most as many rounds as worlds, and each round looks at each pair
-/// once and sorts the classes that each world sees.
+/// splits. It fails for want of memory alone.
 pub(crate) fn bisimilar_classes(alloc: Global, model: &Model) -> Result<Classes, AllocError>
     ensures well_formed { IfOk result (λ _. IsWellFormed model.now) }
     ensures classes { IfOk result (λ classes. AreClassesOf model.now (AreBisimilar model.now) classes.places.items classes.count) }

@@ -8,7 +8,7 @@ use Rattle.lw_bisim.specs.Quotient.{place_of, AreNumbered}
 abbrev pub Follows : FiniteModel → (ℕ → ℕ → Type 0) → ℕ → ℕ → Type 0
 Follows m related v u = (w : ℕ) → Sees m v w → (x : ℕ) × Sees m u x × related w x
 
--- no formula of this modal depth tells v from u
+-- v and u have the same letters, and up to k steps what one of them sees is matched by what the other sees
 abbrev pub AreAlike : FiniteModel → ℕ → ℕ → ℕ → Type 0
 AreAlike m zero v u = HaveSameLetters m v u
 AreAlike m (suc k) v u = AreAlike m k v u × Follows m (AreAlike m k) v u × Follows m (AreAlike m k) u v

@@ -1,4 +1,4 @@
-use Rattle.lw_bisim.proofs.SmallestModels.{quotient_smallest}
+use Rattle.lw_bisim.proofs.QuotientLaws.{quotient_smallest}
 use Rattle.lw_bisim.proofs.laws.quotient_is_smallest.Goals as goal
 
 pub returns : goal.returns

@@ -1,4 +1,4 @@
-use Rattle.lw_bisim.proofs.SmallestModels.{truth_kept}
+use Rattle.lw_bisim.proofs.QuotientLaws.{truth_kept}
 use Rattle.lw_bisim.proofs.laws.quotient_keeps_truth.Goals as goal
 
 pub returns : goal.returns

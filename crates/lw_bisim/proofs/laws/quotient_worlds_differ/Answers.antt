@@ -1,4 +1,4 @@
-use Rattle.lw_bisim.proofs.SmallestModels.{worlds_differ}
+use Rattle.lw_bisim.proofs.QuotientLaws.{worlds_differ}
 use Rattle.lw_bisim.proofs.laws.quotient_worlds_differ.Goals as goal
 
 pub returns : goal.returns

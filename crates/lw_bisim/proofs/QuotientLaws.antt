@@ -1,10 +1,12 @@
--- The laws of quotients: truth is kept, worlds differ, and no model with the same truths is smaller.
+-- The laws of bisimilar worlds and of quotients: truth is kept, worlds differ, and no model with the same truths is smaller.
 use Rattle.std.proofs.Common.{◌≡◌, ◌≢◌, ℕ, ◌<◌, length, ⊎_elim, refl, subst, sym, ◌∙◌, arith}
 use Rattle.std.proofs.lemmas.Bool.{cases_eq}
 use Rattle.lw_formula.specs.FiniteModel.{FiniteModel, IsWellFormed}
 use Rattle.lw_formula.specs.Truth.{IsTrueAt}
+use Rattle.std.specs.List.{Contains}
+use Rattle.lw_bisim.specs.Bisimulation.{IsBisimulation}
 use Rattle.lw_bisim.specs.Quotient.{Quotient, IsQuotient, place_of}
-use Rattle.lw_bisim.specs.Laws.{QuotientKeepsTruth, QuotientKeepsClass, QuotientWorldsDiffer, QuotientIsSmallest}
+use Rattle.lw_bisim.specs.Laws.{BisimilarWorldsAgree, QuotientKeepsTruth, QuotientKeepsClass, QuotientRefutes, QuotientWorldsDiffer, QuotientIsSmallest}
 use Rattle.lw_bisim.proofs.TruthKept.{same_truth}
 use Rattle.lw_bisim.proofs.TellingFormulas.{Differ}
 use Rattle.lw_bisim.proofs.StillRounds.{bisimilar_or_differ}
@@ -12,11 +14,28 @@ use Rattle.lw_bisim.proofs.QuotientFrames.{IsOf, of_class, class_GoesForthAndBac
 use Rattle.lw_bisim.proofs.Injections.{le-from_injection}
 use Rattle.lw_bisim.proofs.LeastWorlds.{least, least-IsLeastOf}
 
+pub bisimilar_agree : BisimilarWorldsAgree
+bisimilar_agree m v u ok l n = (
+  λ b a.
+      let h : IsBisimulation m b.0 = b.1 in
+      same_truth a m m (λ x y. Contains b.0 (x, y)) (record { letters = h.letters; forth = h.forth; back = h.back }) v u b.2,
+  λ same. ⊎_elim (λ b. b) (λ d. absurd (d.1.1 ((same d.0).0 d.1.0))) (bisimilar_or_differ m ok v u l n),
+)
+
 pub truth_kept : QuotientKeepsTruth
 truth_kept m q ok h v l a = same_truth a m q.model (IsOf m q ok h) (class_GoesForthAndBack m q ok h) v (place_of q.places v) (l, refl)
 
 pub class_kept_by_quotient : QuotientKeepsClass
 class_kept_by_quotient logic m q h c = class_kept m q c.well_formed h logic c.frame
+
+pub refutation_kept : QuotientRefutes
+refutation_kept logic m q w a h r =
+    let places : length q.places ≡ m.worlds = h.placed in
+    let within : w < m.worlds = r.within in record {
+      in_class = class_kept_by_quotient logic m q h r.in_class;
+      within = h.numbered.below w 0 (omega arith);
+      fails = λ t. r.fails ((truth_kept m q r.in_class.well_formed h w within a).1 t);
+    }
 
 -- worlds of different classes differ
 classes_differ : (m : FiniteModel) (q : Quotient) → IsWellFormed m → IsQuotient m q → (v u : ℕ) → v < m.worlds → u < m.worlds → place_of q.places v ≢ place_of q.places u → Differ m v u
