@@ -5,23 +5,16 @@ use Rattle.lw_formula.specs.Formula.{Formula}
 use Rattle.lw_formula.specs.FiniteModel.{FiniteModel}
 use Rattle.lw_formula.specs.Validity.{Refutes}
 use Rattle.lw_bisim.specs.Quotient.{Quotient, IsQuotient, place_of}
-use Rattle.lw_bisim.proofs.SmallestModels.{truth_kept, class_kept_by_quotient}
+use Rattle.lw_bisim.proofs.QuotientLaws.{refutation_kept}
 use Rattle.lw_value.specs.Values.{Evidence, proved, refuted, Val, formula, truth, number, text, items, logic, certificate, naught}
 use Rattle.lw_value.specs.Evidence.{HasEvidence}
 use Rattle.lw_eval.specs.Evaluations.{Evaluation, Got, Fails, Given}
 use Rattle.lw_eval.specs.Operands.{certificate_in}
 use Rattle.lw_eval.specs.Calls.{Shrinks}
 
-shrunk_refutes : (l : Logic) (a : Formula) (m : FiniteModel) (w : ℕ) (q : Quotient) → IsQuotient m q → Refutes l m w a → Refutes l q.model (place_of q.places w) a
-shrunk_refutes l a m w q is refutes = record {
-  in_class = class_kept_by_quotient l m q is refutes.in_class;
-  within = is.numbered.below w (subst (λ n. w < n) (sym is.placed) refutes.within);
-  fails = λ holds. refutes.fails ((truth_kept m q refutes.in_class.well_formed is w refutes.within a).1 holds);
-}
-
 shrinks_evident : (l : Logic) (a : Formula) (e : Evidence Formula) (u : Val Formula) → HasEvidence (certificate l a e) → Shrinks l a e (Got u) → HasEvidence u
 shrinks_evident l a _ _ has Shrinks.proof = has
-shrinks_evident l a (refuted m w) _ has (Shrinks.quotient q is) = shrunk_refutes l a m w q is has
+shrinks_evident l a (refuted m w) _ has (Shrinks.quotient q is) = refutation_kept l m q w a is has
 
 got_nothing : (u : Val Formula) (t : Rattle.lw_eval.specs.declared.trouble.Trouble.Trouble) → Got u ≡ Fails t → HasEvidence u
 got_nothing u t is = absurd (cc)
