@@ -6,6 +6,7 @@ pub mod EvaluationsRepeated
 pub mod EvidenceKept
 pub mod ExpressionsSeen
 pub mod ItemsSeen
+pub mod ModelsShrunk
 pub mod NamesInOrder
 pub mod OneOutput
 pub mod OneValue

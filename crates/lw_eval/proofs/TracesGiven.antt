@@ -1,12 +1,13 @@
 -- What `trace` and `letterless` give, as their rows have it.
-use Rattle.std.proofs.Common.{◌≡◌, ◌∙◌, ℕ, ◌≤◌, ◌<◌, Bool, List, [], ◌∷◌, Result, Ok, Err, map, refl, sym, ap}
+use Rattle.std.proofs.Common.{◌≡◌, ◌∙◌, ℕ, zero, suc, ◌+◌, ◌≤◌, ◌<◌, Bool, List, [], ◌∷◌, ◌++◌, length, take, slice_index_or, Result, Ok, Err, map, refl, sym, ap, subst, arith}
+use Rattle.std.proofs.lemmas.List.{take_all}
 use Rattle.lw_formula.specs.Formula.{Formula, subformula_count}
 use Rattle.lw_pool.specs.declared.id.FormId.{FormId}
 use Rattle.lw_closure.specs.declared.fault.TheConstants.{SUBFORMULA_LIMIT}
 use Rattle.lw_trace.specs.LetterlessTruth.{TruthByHeight, IsLetterless, trace_of}
 use Rattle.lw_trace.specs.LetterlessForm.{letterless_of}
 use Rattle.lw_value.specs.declared.value.Value.{Value}
-use Rattle.lw_value.specs.Values.{Val, Vals, vals, seen_all, formula, truth, number, item}
+use Rattle.lw_value.specs.Values.{Val, Vals, vals, seen_all, AreItemsLive, formula, truth, number, item}
 use Rattle.lw_eval.specs.declared.trouble.Trouble.{Trouble}
 use Rattle.lw_eval.specs.declared.trouble.Trouble.TheVariants.{TextLimit, TooLarge, NoInterpolants, NotModalised, TooManyBoxes, NotIntuitionistic, NotLetterless, Unbound, Kind, Range, StepLimit}
 use Rattle.lw_eval.specs.declared.fault.EvalFault.{EvalFault}
@@ -23,6 +24,34 @@ numbers_seen ts (n ∷ ns) = ap (item (number n)) (numbers_seen ts ns)
 
 trace_seen : (ts : List Formula) (b : Bool) (ns : List ℕ) → seen_all ts (vals (truth b ∷ map number ns)) ≡ vals (truth b ∷ map number ns)
 trace_seen ts b ns = ap (item (truth b)) (numbers_seen ts ns)
+
+-- numbers as values
+abbrev numbers_of : List ℕ → List (Val FormId)
+numbers_of ns = map number ns
+
+-- those up to the next one
+up_to_next : (xs : List ℕ) (i : ℕ) → i < length xs → numbers_of (take (suc i) xs) ≡ numbers_of (take i xs) ++ number (slice_index_or xs i 0) ∷ []
+up_to_next [] i within = absurd (omega (arith, within))
+up_to_next (x ∷ xs) zero within = refl
+up_to_next (x ∷ xs) (suc i) within = ap (λ vs. number x ∷ vs) (up_to_next xs i (omega (arith, within)))
+
+pub next_height : (b : Bool) (xs : List ℕ) (i : ℕ) (before after : List (Val FormId)) → i < length xs → before ≡ truth b ∷ map number (take i xs) → after ≡ before ++ number (slice_index_or xs i 0) ∷ []
+    → after ≡ truth b ∷ map number (take (i + 1) xs)
+next_height b xs i before after within are pushed =
+    let next : suc i ≡ i + 1 = omega arith in
+    subst (λ n. after ≡ truth b ∷ map number (take n xs)) next
+    (pushed ∙ ap (λ vs. vs ++ number (slice_index_or xs i 0) ∷ []) are ∙ ap (λ vs. truth b ∷ vs) (sym (up_to_next xs i within)))
+
+pub all_heights : (b : Bool) (xs heights : List ℕ) (i : ℕ) (all : List (Val FormId)) → length xs ≤ i → xs ≡ heights → all ≡ truth b ∷ map number (take i xs) → all ≡ truth b ∷ map number heights
+all_heights b xs heights i all end same are = are ∙ ap (λ ns. truth b ∷ map number ns) (take_all i xs end ∙ same)
+
+-- the pool has each id of the list, since there are none
+numbers_live : (ts : List Formula) (ns : List ℕ) → AreItemsLive ts (vals (numbers_of ns))
+numbers_live ts [] = tt
+numbers_live ts (n ∷ ns) = (tt, numbers_live ts ns)
+
+pub trace_live : (ts : List Formula) (b : Bool) (ns : List ℕ) (vs : List (Val FormId)) → vs ≡ truth b ∷ map number ns → AreItemsLive ts (vals vs)
+trace_live ts b ns vs are = subst (λ ws. AreItemsLive ts (vals ws)) (sym are) (tt, numbers_live ts ns)
 
 -- the list of the values
 pub trace_gives : (a : Formula) (ts : List Formula) (t : TruthByHeight) (vs : List (Val FormId)) (r : Result Value EvalFault) → t ≡ trace_of a → IsLetterless a → subformula_count a ≤ SUBFORMULA_LIMIT
