@@ -14,7 +14,10 @@ fn quotient_text(alloc: Global, quotient: &Quotient, worlds: usize) -> Result<St
 {
     let mut places = String::new(alloc);
     for world in 0..worlds {
-        add_item(&mut places, format!(in alloc; "{}", quotient.place(world))?.as_str())?;
+        add_item(
+            &mut places,
+            format!(in alloc; "{}", quotient.place(world))?.as_str(),
+        )?;
     }
     let rows = rows_text(alloc, quotient.model())?;
     format!(in alloc; "{rows}; places {places}")
