@@ -1,6 +1,7 @@
 use crate::certificates::{copy_line, cut_line, logics_line, proof_line, shrunk_lines};
 use crate::chains::chain_line;
 use crate::closures::closure_line;
+use crate::fixed_points::fixed_point_line;
 use crate::formulas::{pool_line, print_line, replace_line, tree_line};
 use crate::functions::{goedel_line, image_line};
 use crate::interpolants::interpolant_line;
@@ -42,6 +43,7 @@ pub fn written(setting: &mut Setting, verb: &str, rest: &str) -> Result<Vec<u8>,
         "nnf" | "simplify" | "boxdot" => image_line(setting.alloc, verb, rest.as_bytes()),
         "goedel" => goedel_line(setting.alloc, rest.as_bytes()),
         "trace" => trace_line(setting.alloc, rest.as_bytes()),
+        "fixpoint" => fixed_point_line(setting.alloc, rest),
         "rows" | "facts" | "class" | "truth" | "spare" | "smallest" => {
             of_model(setting, verb, rest)
         }

@@ -9,6 +9,7 @@ mod closures;
 mod disk;
 mod entry;
 mod escapes;
+mod fixed_points;
 mod formulas;
 mod functions;
 mod interpolants;
