@@ -18,7 +18,9 @@ SharedProofUnfolds =
 
 -- a line unfolds to one tree at most
 abbrev pub UnfoldsOnce : Type 0
-UnfoldsOnce = (table : List (Line Signed)) (root : ℕ) (one other : Tree Signed) → Unfolds table root one → Unfolds table root other → one ≡ other
+UnfoldsOnce =
+    (table : List (Line Signed)) (root : ℕ) (one other : Tree Signed) →
+    Unfolds table root one → Unfolds table root other → one ≡ other
 
 -- and that tree proves the goal
 abbrev pub UnfoldedProves : Type 0

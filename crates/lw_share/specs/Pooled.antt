@@ -13,7 +13,8 @@ use Rattle.lw_share.specs.Lines.{Line, map_line}
 -- the line with this number, where what is no line has no members
 abbrev pub line_of : List (Line SignedId) → ℕ → Line SignedId
 line_of table i =
-    slice_index_or table i (record { members = []; rule = Rule.Close; principal = record { sign = F; form = record { 0 = 0 } }; cites = [] })
+    slice_index_or table i
+    (record { members = []; rule = Rule.Close; principal = record { sign = F; form = record { 0 = 0 } }; cites = [] })
 
 -- the line with the signed formulas of its ids
 abbrev pub line_at : List Formula → Line SignedId → Line Signed

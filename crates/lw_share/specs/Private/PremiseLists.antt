@@ -34,12 +34,14 @@ AreBoth xs one other lists = (ts : List Formula) → map (set_of ts) lists ≡ w
 -- the second list stands for what the step on the π x, whose component is c, leaves of the set of the first
 abbrev pub IsStepped : Logic → List Formula → SignedId → SignedId → List SignedId → List SignedId → Type 0
 IsStepped L now x c xs ys =
-    (ts : List Formula) → Grows now ts → set_of ts ys ≡ plus trees (added trees L (signed_at ts x) (signed_at ts c)) (kept trees L (set_of ts xs))
+    (ts : List Formula) → Grows now ts →
+    set_of ts ys ≡ plus trees (added trees L (signed_at ts x) (signed_at ts c)) (kept trees L (set_of ts xs))
 
 -- the lists stand for the premises of the rule on x where the set of the ids is to be closed
 abbrev pub ArePremises : Logic → List Formula → Rule → SignedId → List SignedId → List (List SignedId) → Type 0
 ArePremises L now r x xs lists =
-    (ts : List Formula) → Grows now ts → map (set_of ts) lists ≡ premises trees L r (signed_at ts x) (parts_of (signed_at ts x)) (set_of ts xs)
+    (ts : List Formula) → Grows now ts →
+    map (set_of ts) lists ≡ premises trees L r (signed_at ts x) (parts_of (signed_at ts x)) (set_of ts xs)
 
 -- the pool has the ids of each list
 abbrev pub AreAllLive : List Formula → List (List SignedId) → Type 0
