@@ -1,0 +1,6 @@
+mod UnfoldedLines
+mod CollectedSets
+mod CitedLines
+mod PremiseSets
+mod HeldLines
+mod TableVerdicts

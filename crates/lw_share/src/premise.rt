@@ -1,0 +1,100 @@
+ghost use Rattle.std.specs.Prelude.{IfOk, IfSome, List, length};
+ghost use Rattle.lw_formula.specs.Formula.{Formula};
+ghost use Rattle.lw_pool.specs.Region.{IsLive, Grows, AreBothBelow};
+ghost use Rattle.lw_sets.specs.IdSets.{AreLive};
+ghost use Rattle.lw_share.specs.Private.PremiseLists.{AreAllLive, AreBoth, ArePremises, IsCompanion, IsStepped};
+
+use crate::sets::extended;
+use lw_formula::{Logic, Parts};
+use lw_pool::{Pool, SignedId};
+use lw_proof::{Rule, SignedIds};
+use lw_sets::{add_side, kept_items};
+use std::alloc::{AllocError, Global};
+
+/// The sets that the rule on the item leaves to be closed, where the items are to be closed; none where the rule takes no
+/// such item.
+pub(crate) fn premises(
+    alloc: Global,
+    pool: &mut Pool,
+    logic: Logic,
+    items: &SignedIds,
+    rule: Rule,
+    item: SignedId,
+) -> Result<Vec<SignedIds>, AllocError>
+    requires items { AreLive pool.old items.now }
+    requires item { IsLive pool.old item.form }
+    ensures sets { IfOk result (λ sets. ArePremises logic pool.new rule item items.now sets.items) }
+    ensures live { IfOk result (λ sets. AreAllLive pool.new sets.items) }
+    ensures grows { Grows pool.old pool.new }
+{
+    match (rule, pool.parts(item)) {
+        (Rule::One, Parts::One(first, second)) => {
+            let set = extended(alloc, items, (first, second))?;
+            Ok(vec![in alloc; set]?)
+        }
+        (Rule::Two, Parts::Two(one, other)) => both(alloc, items, one, other),
+        (Rule::Refl, Parts::Nu(part)) => {
+            let set = extended(alloc, items, (part, None))?;
+            Ok(vec![in alloc; set]?)
+        }
+        (Rule::Step, Parts::Pi(part)) => {
+            let set = stepped(pool, logic, items, item, part)?;
+            Ok(vec![in alloc; set]?)
+        }
+        (Rule::Cut, _) => both(alloc, items, (item, None), (item.flip(), None)),
+        (Rule::Close | Rule::Absurd | Rule::One | Rule::Two | Rule::Refl | Rule::Step, _) => {
+            Ok(Vec::new(alloc))
+        }
+    }
+}
+
+/// The set with the components of the one side, and that with the other's.
+fn both(
+    alloc: Global,
+    items: &SignedIds,
+    one: (SignedId, Option<SignedId>),
+    other: (SignedId, Option<SignedId>),
+) -> Result<Vec<SignedIds>, AllocError>
+    ensures sets { IfOk result (λ sets. AreBoth items.now one other sets.items) }
+    ensures live { IfOk result (λ sets. (ts : List Formula) → AreLive ts items.now →
+        AreBothBelow (length ts) one → AreBothBelow (length ts) other → AreAllLive ts sets.items) }
+{
+    let one = extended(alloc, items, one)?;
+    let other = extended(alloc, items, other)?;
+    Ok(vec![in alloc; one, other]?)
+}
+
+/// The set that the step on the π `item`, whose component is `part`, leaves to be closed.
+fn stepped(
+    pool: &mut Pool,
+    logic: Logic,
+    items: &SignedIds,
+    item: SignedId,
+    part: SignedId,
+) -> Result<SignedIds, AllocError>
+    requires items { AreLive pool.old items.now }
+    requires item { IsLive pool.old item.form }
+    requires part { IsLive pool.old part.form }
+    ensures set { IfOk result (IsStepped logic pool.new item part items.now) }
+    ensures live { IfOk result (AreLive pool.new) }
+    ensures grows { Grows pool.old pool.new }
+{
+    let mut set = kept_items(pool, logic, items)?;
+    let companion = companion(pool, logic, item)?;
+    add_side(&mut set, (part, companion))?;
+    Ok(set)
+}
+
+/// What a step adds beside the component of its π.
+fn companion(pool: &mut Pool, logic: Logic, item: SignedId) -> Result<Option<SignedId>, AllocError>
+    requires { IsLive pool.old item.form }
+    ensures added { IfOk result (IsCompanion logic pool.new item) }
+    ensures live { IfOk result (λ o. IfSome o (λ x. IsLive pool.new x.form)) }
+    ensures grows { Grows pool.old pool.new }
+{
+    match logic {
+        Logic::K | Logic::KT | Logic::S4 | Logic::S5 => Ok(None),
+        Logic::GL => Ok(Some(item.flip())),
+        Logic::Grz => pool.guard(item),
+    }
+}
