@@ -7,10 +7,11 @@ import xml.etree.ElementTree as tree
 
 from certificates.calculus import flip, walk
 from certificates.judge import verdict
+from certificates.models import true_worlds
 from certificates.texts import ARITY, LOGICS, read
 from checks.report import TOP, text_of
 from checks.running import run
-from showing import graph, labels, picture, reasons, reduction
+from showing import graph, labels, picture, quotient, reasons, reduction
 
 CERTIFICATES = os.path.join(TOP, "examples", "check")
 PICTURES = os.path.join(TOP, "docs", "pictures")
@@ -206,6 +207,19 @@ def check_committed(report):
             report.check("%s stands in a document" % name, any("pictures/%s.svg" % name in text for text in documents))
 
 
+def check_smallest(report):
+    """A model found by hand; and of each example: the same is true at a world and at its place, and no worlds are left to join."""
+    fork = ([[1, 3], [2], [], [4], []], [set(), {"p"}, {"q"}, {"r"}, {"q"}], 3)
+    report.check("smallest model of a fork", quotient.smallest(fork) == (([[1, 3], [2], [], [2]], [set(), {"p"}, {"q"}, {"r"}], 3), [0, 1, 2, 3, 2]))
+    for name, _, goal, model in models():
+        smaller, places = quotient.smallest(model)
+        known, there = {}, {}
+        true_worlds(model[0], model[1], goal, known)
+        true_worlds(smaller[0], smaller[1], goal, there)
+        same = all((w in known[a]) == (place in there[a]) for a in known for w, place in enumerate(places))
+        report.check("smallest model of %s" % name, same and quotient.smallest(smaller)[0][0] == smaller[0] and smaller[2] == places[model[2]])
+
+
 def check_all(report):
     check_first_lines(report)
     check_reasons(report)
@@ -213,4 +227,5 @@ def check_all(report):
     check_knots(report)
     check_long_labels(report)
     check_graph(report)
+    check_smallest(report)
     check_committed(report)

@@ -1,5 +1,6 @@
 """A model as a picture in SVG, drawn by itself: circles with their true variables, the refuting world's doubled, and arrows."""
 
+import re
 from xml.sax.saxutils import escape
 
 from showing.arrows import arrow_lines, one_for_both_ways
@@ -8,6 +9,7 @@ from showing.layout import Layout
 from showing.strokes import number, text_line
 
 MOST_ARROWS = 600
+SIZE = re.compile('width="([0-9]+)" height="([0-9]+)"')
 RING = 4
 MARGIN, LEAST_WIDTH = 24, 460
 STYLE = (
@@ -115,4 +117,22 @@ def lines(model, arrows, caption):
         yield from world_lines(picture, w)
     for i, text in enumerate(captions):
         yield text_line(MARGIN, picture.height() + LINE * (i + 0.5), "caption", text)
+    yield "</svg>"
+
+
+def beside(pictures):
+    """One picture of several, from left to right; one alone stays as it is."""
+    pictures = [list(picture) for picture in pictures]
+    if len(pictures) == 1:
+        yield from pictures[0]
+        return
+    sizes = [tuple(int(length) for length in SIZE.search(picture[0]).groups()) for picture in pictures]
+    size = (sum(width for width, _ in sizes), max(height for _, height in sizes))
+    yield '<svg xmlns="http://www.w3.org/2000/svg" width="%d" height="%d" viewBox="0 0 %d %d">' % (size + size)
+    yield '<rect width="100%" height="100%" fill="white"/>'
+    left = 0
+    for picture, (width, _) in zip(pictures, sizes):
+        yield picture[0].replace("<svg ", '<svg x="%d" ' % left)
+        yield from picture[1:]
+        left += width
     yield "</svg>"
