@@ -9,14 +9,14 @@ ghost use Rattle.lw_sets.specs.IdSets.{set_of, AreLive, with_side};
 ghost use Rattle.lw_check.specs.Private.LeftSets.{with_each};
 ghost use Rattle.lw_check.specs.Private.ProofWalk.{Tells, TellsAll};
 
-use crate::premise::{left, stepped};
+use crate::premise::left;
 use crate::step::refusal;
 use crate::verdict::Verdict;
 use crate::walked::Walked;
 use lw_formula::{Logic, Parts, Sign};
 use lw_pool::{FormId, Pool, SignedId};
 use lw_proof::{Proof, SignedIds};
-use lw_sets::add_side;
+use lw_sets::{add_side, stepped};
 use std::alloc::{AllocError, Global};
 
 /// Whether the proof proves the goal in the logic, and else the first step that breaks its rule, with the first reason.

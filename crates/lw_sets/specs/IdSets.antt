@@ -7,7 +7,7 @@ use Rattle.lw_formula.specs.Signed.{Signed, SignedSet}
 use Rattle.lw_pool.specs.declared.id.SignedId.{SignedId}
 use Rattle.lw_pool.specs.Region.{IsLive, Grows, signed_at, both_at}
 use Rattle.lw_proof.specs.System.{trees, same_signed}
-use Rattle.lw_proof.specs.Derivation.{side, plus, kept}
+use Rattle.lw_proof.specs.Derivation.{side, plus, added, kept}
 use Rattle.lw_proof.specs.SignedIds.{Adds}
 
 -- the set of these
@@ -38,3 +38,12 @@ with_side xs p ts = plus trees (side_at ts p) (set_of ts xs)
 -- the second list stands for what a step keeps of the set of the first, also in each pool that has grown from this one
 abbrev pub IsKept : Logic → List Formula → List SignedId → List SignedId → Type 0
 IsKept L now xs ys = (ts : List Formula) → Grows now ts → set_of ts ys ≡ kept trees L (set_of ts xs)
+
+-- what the step on the π x, whose component is c, leaves to be closed of the set of the ids
+abbrev pub step_set : Logic → SignedId → SignedId → List SignedId → List Formula → SignedSet
+step_set L x c xs ts = plus trees (added trees L (signed_at ts x) (signed_at ts c)) (kept trees L (set_of ts xs))
+
+-- the second list stands for what the step on the π x, whose component is c, leaves of the first, also in each pool that has
+-- grown from this one
+abbrev pub IsStepSet : Logic → List Formula → SignedId → SignedId → List SignedId → List SignedId → Type 0
+IsStepSet L now x c xs ys = (ts : List Formula) → Grows now ts → set_of ts ys ≡ step_set L x c xs ts

@@ -4,6 +4,8 @@
 
 mod kept;
 mod members;
+mod step;
 
 pub use kept::kept_items;
 pub use members::{add_side, has};
+pub use step::stepped;

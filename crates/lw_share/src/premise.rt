@@ -1,14 +1,14 @@
-ghost use Rattle.std.specs.Prelude.{IfOk, IfSome, List, length};
+ghost use Rattle.std.specs.Prelude.{IfOk, List, length};
 ghost use Rattle.lw_formula.specs.Formula.{Formula};
 ghost use Rattle.lw_pool.specs.Region.{IsLive, Grows, AreBothBelow};
 ghost use Rattle.lw_sets.specs.IdSets.{AreLive};
-ghost use Rattle.lw_share.specs.Private.PremiseLists.{AreAllLive, AreBoth, ArePremises, IsCompanion, IsStepped};
+ghost use Rattle.lw_share.specs.Private.PremiseLists.{AreAllLive, AreBoth, ArePremises};
 
 use crate::sets::extended;
 use lw_formula::{Logic, Parts};
 use lw_pool::{Pool, SignedId};
 use lw_proof::{Rule, SignedIds};
-use lw_sets::{add_side, kept_items};
+use lw_sets::stepped;
 use std::alloc::{AllocError, Global};
 
 /// The sets that the rule on the item leaves to be closed, where the items are to be closed; none where the rule takes no
@@ -62,39 +62,4 @@ fn both(
     let one = extended(alloc, items, one)?;
     let other = extended(alloc, items, other)?;
     Ok(vec![in alloc; one, other]?)
-}
-
-/// The set that the step on the π `item`, whose component is `part`, leaves to be closed.
-fn stepped(
-    pool: &mut Pool,
-    logic: Logic,
-    items: &SignedIds,
-    item: SignedId,
-    part: SignedId,
-) -> Result<SignedIds, AllocError>
-    requires items { AreLive pool.old items.now }
-    requires item { IsLive pool.old item.form }
-    requires part { IsLive pool.old part.form }
-    ensures set { IfOk result (IsStepped logic pool.new item part items.now) }
-    ensures live { IfOk result (AreLive pool.new) }
-    ensures grows { Grows pool.old pool.new }
-{
-    let mut set = kept_items(pool, logic, items)?;
-    let companion = companion(pool, logic, item)?;
-    add_side(&mut set, (part, companion))?;
-    Ok(set)
-}
-
-/// What a step adds beside the component of its π.
-fn companion(pool: &mut Pool, logic: Logic, item: SignedId) -> Result<Option<SignedId>, AllocError>
-    requires { IsLive pool.old item.form }
-    ensures added { IfOk result (IsCompanion logic pool.new item) }
-    ensures live { IfOk result (λ o. IfSome o (λ x. IsLive pool.new x.form)) }
-    ensures grows { Grows pool.old pool.new }
-{
-    match logic {
-        Logic::K | Logic::KT | Logic::S4 | Logic::S5 => Ok(None),
-        Logic::GL => Ok(Some(item.flip())),
-        Logic::Grz => pool.guard(item),
-    }
 }

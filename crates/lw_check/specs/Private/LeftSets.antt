@@ -1,5 +1,5 @@
 -- What a step leaves to be closed, by the components of its principal.
-use Rattle.std.specs.Prelude.{◌≡◌, ℕ, List, [], ◌∷◌, Option, option_map}
+use Rattle.std.specs.Prelude.{◌≡◌, ℕ, List, [], ◌∷◌, Option}
 use Rattle.lw_formula.specs.declared.logic.Logic.{Logic}
 use Rattle.lw_formula.specs.declared.parts.Parts.{Parts}
 use Rattle.lw_formula.specs.declared.parts.Parts.TheVariants.{Nothing, One, Two, Nu, Pi}
@@ -7,11 +7,10 @@ use Rattle.lw_formula.specs.Formula.{Formula}
 use Rattle.lw_formula.specs.Signed.{Signed, SignedSet}
 use Rattle.lw_formula.specs.Components.{parts_of}
 use Rattle.lw_pool.specs.declared.id.SignedId.{SignedId}
-use Rattle.lw_pool.specs.Region.{Grows, signed_at}
 use Rattle.lw_proof.specs.declared.rule.Rule.{Rule}
 use Rattle.lw_proof.specs.System.{trees}
 use Rattle.lw_proof.specs.Derivation.{side, plus, kept, added, premises}
-use Rattle.lw_sets.specs.IdSets.{set_of, with_side}
+use Rattle.lw_sets.specs.IdSets.{with_side}
 
 -- how many sets are left by components
 abbrev pub count_left : {I : Type 0} → Parts I → ℕ
@@ -36,16 +35,3 @@ Leaves r s p = (L : Logic) (X : SignedSet) → premises trees L r s (parts_of s)
 -- their set with the one side, and with the other
 abbrev pub with_each : List SignedId → (SignedId × Option SignedId) × (SignedId × Option SignedId) → List Formula → List SignedSet
 with_each xs sides ts = with_side xs sides.0 ts ∷ with_side xs sides.1 ts ∷ []
-
--- what the step on x adds beside a component is this, if anything
-abbrev pub IsCompanion : Logic → List Formula → SignedId → Option SignedId → Type 0
-IsCompanion L now x o =
-    (ts : List Formula) (c : Signed) → Grows now ts → added trees L (signed_at ts x) c ≡ side c (option_map (signed_at ts) o)
-
--- what the step on the π x, whose component is c, leaves of the set of these ids
-abbrev pub step_set : Logic → SignedId → SignedId → List SignedId → List Formula → SignedSet
-step_set L x c xs ts = plus trees (added trees L (signed_at ts x) (signed_at ts c)) (kept trees L (set_of ts xs))
-
--- the second list stands for what the step on the π x, whose component is c, leaves of the first
-abbrev pub IsStepSet : Logic → List Formula → SignedId → SignedId → List SignedId → List SignedId → Type 0
-IsStepSet L now x c xs ys = (ts : List Formula) → Grows now ts → set_of ts ys ≡ step_set L x c xs ts

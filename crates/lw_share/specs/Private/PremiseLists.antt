@@ -22,20 +22,9 @@ HaveOneSet xs ys = (ts : List Formula) → set_of ts ys ≡ set_of ts xs
 abbrev pub AreAsLive : List SignedId → List SignedId → Type 0
 AreAsLive xs ys = (ts : List Formula) → AreLive ts xs → AreLive ts ys
 
--- what the step on x adds beside a component is this, if anything
-abbrev pub IsCompanion : Logic → List Formula → SignedId → Option SignedId → Type 0
-IsCompanion L now x o =
-    (ts : List Formula) (c : Signed) → Grows now ts → added trees L (signed_at ts x) c ≡ side c (option_map (signed_at ts) o)
-
 -- the lists stand for the set with the components of the one side, and with those of the other
 abbrev pub AreBoth : List SignedId → SignedId × Option SignedId → SignedId × Option SignedId → List (List SignedId) → Type 0
 AreBoth xs one other lists = (ts : List Formula) → map (set_of ts) lists ≡ with_side xs one ts ∷ with_side xs other ts ∷ []
-
--- the second list stands for what the step on the π x, whose component is c, leaves of the set of the first
-abbrev pub IsStepped : Logic → List Formula → SignedId → SignedId → List SignedId → List SignedId → Type 0
-IsStepped L now x c xs ys =
-    (ts : List Formula) → Grows now ts →
-    set_of ts ys ≡ plus trees (added trees L (signed_at ts x) (signed_at ts c)) (kept trees L (set_of ts xs))
 
 -- the lists stand for the premises of the rule on x where the set of the ids is to be closed
 abbrev pub ArePremises : Logic → List Formula → Rule → SignedId → List SignedId → List (List SignedId) → Type 0

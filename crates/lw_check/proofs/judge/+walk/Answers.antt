@@ -9,8 +9,7 @@ use Rattle.lw_pool.specs.Region.{IsLive, Grows}
 use Rattle.lw_proof.specs.Tree.{principal_of, subs_of}
 use Rattle.lw_proof.specs.Break.{arity}
 use Rattle.lw_check.specs.declared.walked.Walked.TheVariants.{Through}
-use Rattle.lw_sets.specs.IdSets.{set_of, with_side}
-use Rattle.lw_check.specs.Private.LeftSets.{step_set}
+use Rattle.lw_sets.specs.IdSets.{set_of, with_side, step_set}
 use Rattle.lw_check.specs.Private.ProofWalk.{Tells, TellsAll}
 use Rattle.lw_pool.proofs.RegionGrowth.{Grows-same, Grows-trans}
 use Rattle.lw_sets.proofs.GrownPools.{IsProofLive_grows, AreLive_grows, AreBothBelow_grows}
