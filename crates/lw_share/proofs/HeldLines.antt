@@ -37,11 +37,11 @@ pub IsTableLive_grows : (now ts : List Formula) → Grows now ts → (table : Li
 IsTableLive_grows now ts g table l =
     All-weaker (IsLineLive now) (IsLineLive ts) (λ k h. (AreLive_grows now ts g k.members h.0, IsLive_grows now ts g k.principal.form h.1)) table l
 
-cited_moved : (T U : List (Line Signed)) (c d : List ℕ) (Xs Ys : List SignedSet) → T ≡ U → c ≡ d → Xs ≡ Ys → CiteEach T c Xs → CiteEach U d Ys
+pub cited_moved : (T U : List (Line Signed)) (c d : List ℕ) (Xs Ys : List SignedSet) → T ≡ U → c ≡ d → Xs ≡ Ys → CiteEach T c Xs → CiteEach U d Ys
 cited_moved T U c d Xs Ys t e p h =
     subst (λ (Zs : List SignedSet). CiteEach U d Zs) p (subst (λ (k : List ℕ). CiteEach U k Xs) e (subst (λ (V : List (Line Signed)). CiteEach V c Xs) t h))
 
-applies_moved : (C : SignedSet) (L : Logic) (X Y : SignedSet) (r q : Rule) (s t : Signed) → X ≡ Y → r ≡ q → s ≡ t → Applies trees C L X r s → Applies trees C L Y q t
+pub applies_moved : (C : SignedSet) (L : Logic) (X Y : SignedSet) (r q : Rule) (s t : Signed) → X ≡ Y → r ≡ q → s ≡ t → Applies trees C L X r s → Applies trees C L Y q t
 applies_moved C L X Y r q s t x e p h =
     subst (λ (u : Signed). Applies trees C L Y q u) p (subst (λ (k : Rule). Applies trees C L Y k s) e (subst (λ (Z : SignedSet). Applies trees C L Z r s) x h))
 

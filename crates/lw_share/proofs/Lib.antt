@@ -4,3 +4,12 @@ mod CitedLines
 mod PremiseSets
 mod HeldLines
 mod TableVerdicts
+mod GrownTables
+mod PutSteps
+mod PooledSteps
+mod PooledSubproofs
+mod WholeProofs
+mod AscendingNumbers
+mod FormsUnder
+mod KeyedSets
+mod KeyedLines

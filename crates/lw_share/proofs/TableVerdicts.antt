@@ -32,7 +32,7 @@ use Rattle.lw_share.proofs.CitedLines.{at_number, line_within, within_line, cite
 use Rattle.lw_share.proofs.HeldLines.{line_grows, table_grows}
 
 -- each line of the table cites earlier lines, whatever its ids stand for
-earlier_at : (ts : List Formula) (table : List (Line SignedId)) → CitesEarlier table → CitesEarlier (table_at ts table)
+pub earlier_at : (ts : List Formula) (table : List (Line SignedId)) → CitesEarlier table → CitesEarlier (table_at ts table)
 earlier_at ts table earlier i line at =
     let below : i < length table = omega (arith, slice_get_within (table_at ts table) i line at, length-map table (line_at ts)) in
     let same : line_at ts (line_of table i) ≡ line = one_line (table_at ts table) i (line_at ts (line_of table i)) line (at_number ts table i below) at in

@@ -7,6 +7,7 @@ use Rattle.lw_formula.specs.Validity.{Valid}
 use Rattle.lw_proof.specs.Tree.{Tree}
 use Rattle.lw_proof.specs.Derivation.{Proves}
 use Rattle.lw_share.specs.Lines.{Line}
+use Rattle.lw_share.specs.SetCounts.{CountsSets}
 use Rattle.lw_share.specs.SharedProofs.{SharedProves}
 use Rattle.lw_share.specs.Unfolding.{Unfolds}
 
@@ -32,3 +33,9 @@ UnfoldedProves =
 abbrev pub SharedIsValid : Type 0
 SharedIsValid =
     (logic : Logic) (table : List (Line Signed)) (root : ℕ) (goal : Formula) → SharedProves logic table root goal → Valid logic goal
+
+-- the sets that the steps of a proof close are counted in one way
+abbrev pub OneSetCount : Type 0
+OneSetCount =
+    (logic : Logic) (goal : Formula) (proof : Tree Signed) (one other : ℕ) →
+    CountsSets logic goal proof one → CountsSets logic goal proof other → one ≡ other

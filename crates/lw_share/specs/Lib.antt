@@ -3,6 +3,7 @@ pub mod Pooled
 pub mod SharedProofs
 pub mod Unfolding
 pub mod NodeSets
+pub mod SetCounts
 pub mod SharedVerdicts
 pub mod Laws
 pub mod Private

@@ -1,4 +1,4 @@
-ghost use Rattle.lw_share.specs.Laws.{SharedIsValid, SharedProofUnfolds, UnfoldedProves, UnfoldsOnce};
+ghost use Rattle.lw_share.specs.Laws.{OneSetCount, SharedIsValid, SharedProofUnfolds, UnfoldedProves, UnfoldsOnce};
 
 /// The root of a shared proof unfolds to a tree.
 pub fn shared_proof_unfolds()
@@ -18,4 +18,9 @@ pub fn unfolded_proves()
 /// In each of the six logics what has a shared proof is valid.
 pub fn shared_is_valid()
     ensures { SharedIsValid }
+{}
+
+/// The sets that the steps of a proof close are counted in one way.
+pub fn one_set_count()
+    ensures { OneSetCount }
 {}

@@ -2,13 +2,19 @@
 #![tactic(auto)]
 
 mod check;
+mod key;
 mod laws;
 mod premise;
 mod sets;
+mod sharing;
+mod steps;
 mod table;
 mod verdict;
 
 pub use check::check_shared;
-pub use laws::{shared_is_valid, shared_proof_unfolds, unfolded_proves, unfolds_once};
+pub use laws::{
+    one_set_count, shared_is_valid, shared_proof_unfolds, unfolded_proves, unfolds_once,
+};
+pub use steps::share;
 pub use table::Table;
 pub use verdict::SharedVerdict;

@@ -13,6 +13,8 @@ use std::alloc::{AllocError, Global};
 
 /// The sets that the rule on the item leaves to be closed, where the items are to be closed; none where the rule takes no
 /// such item.
+// out of line, so that the frames of the walk over a proof, one for each step above, stay small
+#[inline(never)]
 pub(crate) fn premises(
     alloc: Global,
     pool: &mut Pool,

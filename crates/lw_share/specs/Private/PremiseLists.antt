@@ -1,14 +1,14 @@
 -- Sets of signed formulas as lists of ids, also in each pool that has grown from the one at hand.
-use Rattle.std.specs.Prelude.{◌≡◌, ◌↔◌, Bool, IsTrue, All, List, [], ◌∷◌, map, Option, option_map}
+use Rattle.std.specs.Prelude.{◌≡◌, ◌↔◌, Bool, IsTrue, All, List, [], ◌∷◌, map, Option}
 use Rattle.lw_formula.specs.declared.logic.Logic.{Logic}
 use Rattle.lw_formula.specs.Formula.{Formula}
-use Rattle.lw_formula.specs.Signed.{Signed, SignedSet}
+use Rattle.lw_formula.specs.Signed.{SignedSet}
 use Rattle.lw_formula.specs.Components.{parts_of}
 use Rattle.lw_pool.specs.declared.id.SignedId.{SignedId}
 use Rattle.lw_pool.specs.Region.{Grows, signed_at, is_marked}
 use Rattle.lw_proof.specs.declared.rule.Rule.{Rule}
 use Rattle.lw_proof.specs.System.{trees}
-use Rattle.lw_proof.specs.Derivation.{side, plus, added, kept, premises, Applies, goal_cuts}
+use Rattle.lw_proof.specs.Derivation.{premises, Applies, goal_cuts}
 use Rattle.lw_sets.specs.IdSets.{set_of, with_side, AreLive}
 use Rattle.lw_share.specs.Lines.{Line}
 use Rattle.lw_share.specs.Pooled.{line_at, table_at}
