@@ -1,63 +1,35 @@
-"""The forms that are turned, each with its source and its table of signs."""
+"""The forms that are turned, each with its source and what reads it, and those that are left out."""
 
-import re
+import functools
+
+from exchange import dfg, infix
 
 
 class Form:
-    """A form: where it is told of, what it asks, what its signs and words stand for, what its variables look like, what isn't
-    turned by name, and the words round a formula, if there are such."""
+    """A form: where it is told of, what a file in it asks, and what reads one."""
 
-    def __init__(self, source, asks, signs, variable, refused, frame):
-        self.source, self.asks, self.signs, self.refused, self.frame = source, asks, signs, refused, frame
-        self.variable = re.compile(variable)
+    def __init__(self, source, asks, read):
+        self.source, self.asks, self.read = source, asks, read
 
 
-LWB = Form(
-    source="P. Balsiger, A. Heuerding, S. Schwendimann, A benchmark method for the propositional modal logics K, KT, S4, "
-    "Journal of Automated Reasoning 24 (2000), and the Logics Workbench (LWB) that it is made for",
-    asks="whether a formula is valid",
-    signs={"~": "~", "box": "box", "dia": "dia", "&": "&", "v": "v", "->": "->", "<->": "<->", "true": "true", "false": "false"},
-    variable="[a-z][A-Za-z0-9_]*",
-    refused={
-        "begin": "the frame of a file with several formulas",
-        ":": "the number of a formula in a file with several",
-        ";": "a command of the LWB",
-        ":=": "a command of the LWB",
-    },
-    frame=None,
-)
+FORMS = {
+    "dfg": Form(
+        source="the parser of SPASS 3.9, in Debian's source package spass 3.9-1.1: spass-3.9/dfgparser.c, dfglexer.c and tokens.inc",
+        asks="whether a modal formula is valid (prop_formula, in a list of conjectures in eml)",
+        read=dfg.read,
+    ),
+    "lwb": Form(
+        source="P. Balsiger, A. Heuerding, S. Schwendimann, A benchmark method for the propositional modal logics K, KT, S4, "
+        "Journal of Automated Reasoning 24 (2000), and the Logics Workbench (LWB) that it is made for",
+        asks="whether a formula is valid",
+        read=functools.partial(infix.read, infix.LWB),
+    ),
+    "intohylo": Form(
+        source="G. Hoffmann, C. Areces, HTab: a terminating tableaux system for hybrid logic, Electronic Notes in Theoretical "
+        "Computer Science 231 (2009), whose input form it is",
+        asks="whether a formula can be satisfied",
+        read=functools.partial(infix.read, infix.INTOHYLO),
+    ),
+}
 
-INTOHYLO = Form(
-    source="G. Hoffmann, C. Areces, HTab: a terminating tableaux system for hybrid logic, Electronic Notes in Theoretical "
-    "Computer Science 231 (2009), whose input form it is",
-    asks="whether a formula can be satisfied",
-    signs={
-        "~": "~",
-        "-": "~",
-        "!": "~",
-        "[r1]": "box",
-        "<r1>": "dia",
-        "&": "&",
-        "v": "v",
-        "|": "v",
-        "->": "->",
-        "<->": "<->",
-        "true": "true",
-        "false": "false",
-    },
-    variable="p[0-9]+",
-    refused={
-        "@": "the operator of hybrid logic at a nominal",
-        ":": "the operator of hybrid logic at a nominal",
-        "down": "the binder of hybrid logic",
-        "A": "the universal modality",
-        "E": "the universal modality",
-        ";": "more than one formula",
-        "signature": "a signature",
-        "theory": "a signature",
-        "{": "a signature",
-    },
-    frame=("begin", "end"),
-)
-
-FORMS = {"lwb": LWB, "intohylo": INTOHYLO}
+LEFT_OUT = ("the LWB's files with several numbered formulas", "TPTP's non-classical form")

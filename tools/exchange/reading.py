@@ -1,18 +1,6 @@
-"""Reads a formula of another form into the tree of ours.
-
-Before an operand stand the signs for negation, box and diamond, which bind most tightly in each form. Operands between which
-`&` alone stands, or `v` alone, need no brackets, and group to the right here: in which way says nothing. Where two different
-signs stand side by side without brackets, or two of `->` or `<->`, no source at hand says how they group, and the
-formula is refused.
-"""
+"""Words of a text with their places, and what is said of a text that can't be turned."""
 
 import re
-
-from certificates.formulas import is_name
-
-TOKEN = re.compile(r"\s+|<->|->|:=|\[[^\]\s]*\]|<[A-Za-z0-9_-]+>|[A-Za-z][A-Za-z0-9_]*|[^\s]")
-BEFORE = ("~", "box", "dia")
-BETWEEN = ("&", "v", "->", "<->")
 
 
 class CannotTurn(Exception):
@@ -22,108 +10,31 @@ class CannotTurn(Exception):
         super().__init__("line %d column %d: %s" % (place + (what,)))
 
 
-def tokens_of(text):
-    """The tokens with their places, and an empty one at the end."""
-    found = []
-    for match in TOKEN.finditer(text):
-        if not match.group().isspace():
-            found.append((match.group(), place_of(text, match.start())))
-    return found + [("", place_of(text, len(text)))]
-
-
 def place_of(text, at):
     return text.count("\n", 0, at) + 1, at - (text.rfind("\n", 0, at) + 1) + 1
 
 
-class Reader:
-    """Takes tokens one by one."""
+class Words:
+    """The words of a text one by one, and an empty one at the end. `pattern` matches a word or, in no group, what parts words."""
 
-    def __init__(self, form, text):
-        self.form, self.tokens, self.at = form, tokens_of(text), 0
+    def __init__(self, pattern, text):
+        self.words = [(match.group(1), place_of(text, match.start())) for match in re.finditer(pattern, text) if match.group(1)]
+        self.words.append(("", place_of(text, len(text))))
+        self.at = 0
 
-    def word(self):
-        return self.tokens[self.at][0]
-
-    def sign(self):
-        """What the token stands for here, or None."""
-        return self.form.signs.get(self.word())
-
-    def refuse(self, what=None):
-        word, place = self.tokens[self.at]
-        raise CannotTurn(place, what or self.why_not(word))
-
-    def why_not(self, word):
-        if not word:
-            return "the text ends too early"
-        if word in self.form.refused:
-            return "`%s`, %s, isn't turned" % (word, self.form.refused[word])
-        if word[0] in "[<":
-            return "`%s`, another relation, isn't turned: there is one, r1" % word
-        if re.match("[A-Za-z]", word) and word not in self.form.signs:
-            return self.why_no_variable(word)
-        return "`%s` isn't understood here" % word
-
-    def why_no_variable(self, word):
-        if not self.form.variable.fullmatch(word):
-            return "`%s`, which is no variable of the form, isn't turned" % word
-        return "`%s` isn't turned, since it can't be the name of a variable in the workbench" % word
+    def next(self):
+        return self.words[self.at][0]
 
     def take(self):
         self.at += 1
-        return self.tokens[self.at - 1][0]
+        return self.words[self.at - 1][0]
 
-    def whole(self):
-        """The one formula of the text, within the form's frame if it has one."""
-        framed = self.form.frame is not None and self.word() == self.form.frame[0]
-        if framed:
-            self.take()
-        a = self.chain()
-        if framed:
-            if self.word() != self.form.frame[1]:
-                self.refuse()
-            self.take()
-        if self.word():
-            self.refuse()
-        return a
+    def accept(self, word):
+        """Takes the word, if it is the next one."""
+        there = self.next() == word
+        self.at += there
+        return there
 
-    def chain(self):
-        """Operands with one sign between them."""
-        operands, sign = [self.operand()], self.sign()
-        first = sign
-        while sign in BETWEEN:
-            if sign != first:
-                self.refuse("`%s` behind `%s` without brackets isn't turned: no source at hand says how they group" % (sign, first))
-            if sign in ("->", "<->") and len(operands) > 1:
-                self.refuse("two `%s` without brackets aren't turned: no source at hand says how they group" % sign)
-            self.take()
-            operands.append(self.operand())
-            sign = self.sign()
-        a = operands.pop()
-        while operands:
-            a = (first, operands.pop(), a)
-        return a
-
-    def operand(self):
-        sign = self.sign()
-        if sign in BEFORE:
-            self.take()
-            return (sign, self.operand())
-        if sign in ("true", "false"):
-            self.take()
-            return (sign,)
-        if self.word() == "(":
-            self.take()
-            a = self.chain()
-            if self.word() != ")":
-                self.refuse()
-            self.take()
-            return a
-        word = self.word()
-        if sign or word in self.form.refused or not self.form.variable.fullmatch(word) or not is_name(word):
-            self.refuse()
-        return ("letter", self.take())
-
-
-def read(form, text):
-    """The formula of the text; CannotTurn where there is something else in it."""
-    return Reader(form, text).whole()
+    def refuse(self, what):
+        word, place = self.words[self.at]
+        raise CannotTurn(place, "`%s`%s" % (word, what) if word else "the text ends too early")
