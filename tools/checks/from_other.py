@@ -3,7 +3,7 @@
 import glob
 import os
 
-from certificates.formulas import printed, spelled
+from certificates.formulas import printed
 from checks.provers import answer_of
 from checks.report import TOP, text_of
 from checks.running import run
@@ -46,18 +46,6 @@ REFUSED = [
     ("dfg", problem("xor(p, q)"), "line 9 column 14: `xor`, a connective that SPASS 3.9 reads and doesn't translate, isn't turned"),
     ("dfg", problem("not(p, q)"), "line 9 column 19: `,` isn't understood here"),
     ("dfg", problem("and()"), "line 9 column 18: `)` isn't understood here"),
-    ("lwb", "p -> q -> r", "line 1 column 8: two `->` without brackets aren't turned"),
-    ("lwb", "p & q v r", "line 1 column 7: `v` behind `&` without brackets isn't turned"),
-    ("lwb", "begin\n1: p\nend", "line 1 column 1: `begin`, the frame of a file with several formulas, isn't turned"),
-    ("lwb", "p &\n do", "line 2 column 2: `do` isn't turned, since it can't be the name of a variable in the workbench"),
-    ("lwb", "box (p", "line 1 column 7: the text ends too early"),
-    ("lwb", "p + q", "line 1 column 3: `+` isn't understood here"),
-    ("intohylo", "begin @n1 p1 end", "line 1 column 7: `@`, the operator of hybrid logic at a nominal, isn't turned"),
-    ("intohylo", "begin <r2>p1 end", "line 1 column 7: `<r2>`, another relation, isn't turned: there is one, r1"),
-    ("intohylo", "begin [-r1]p1 end", "line 1 column 7: `[-r1]`, another relation, isn't turned: there is one, r1"),
-    ("intohylo", "begin n1 & p1 end", "line 1 column 7: `n1`, which is no variable of the form, isn't turned"),
-    ("intohylo", "begin p1 ; p2 end", "line 1 column 10: `;`, more than one formula, isn't turned"),
-    ("intohylo", "begin p1", "line 1 column 9: the text ends too early"),
     ("dfg", problem("p") + "p", "line 12 column 1: `p` isn't understood here"),
 ]
 
@@ -69,26 +57,19 @@ def said_of(form, text):
         return str(error)
 
 
-def answer_in_k(form, formula):
-    """The answer to what the form asks, by the example prover's certificate."""
-    if form != "intohylo":
-        return "valid in k" if answer_of(formula) == "proof" else "not valid in k"
-    denied = printed(("~", spelled(formula.encode())))
-    return "not satisfiable in k" if answer_of(denied) == "proof" else "satisfiable in k"
-
-
-def ending(form):
-    return "dfg" if form == "dfg" else "txt"
+def answer_in_k(formula):
+    """Whether the formula is valid, by the example prover's certificate."""
+    return "valid in k" if answer_of(formula) == "proof" else "not valid in k"
 
 
 def check_examples(report):
     for form in FORMS:
-        paths = sorted(glob.glob(os.path.join(TOP, "examples", "from-other", form, "*." + ending(form))))
+        paths = sorted(glob.glob(os.path.join(TOP, "examples", "from-other", form, "*." + form)))
         report.check("ten examples of %s" % form, len(paths) >= 10)
         for path in paths:
-            formula, answer = text_of(path[:-3] + "expected").splitlines()
+            formula, answer = text_of(path[: -len(form)] + "expected").splitlines()
             report.compare("from-other %s %s" % (form, path), (formula + "\n", 0), run("tools/from-other", form, path))
-            report.compare("answer of %s" % path, answer, answer_in_k(form, formula))
+            report.compare("answer of %s" % path, answer, answer_in_k(formula))
 
 
 def check_script(report):
