@@ -1,5 +1,5 @@
 -- The shapes of the command line.
-use Rattle.std.specs.Prelude.{◌≡◌, ℕ, ◌≤◌, List, [], ◌∷◌, codes}
+use Rattle.std.specs.Prelude.{◌≡◌, ℕ, ◌≤◌, List, [], ◌∷◌, Option, Some, None, codes}
 use Rattle.std.specs.Fmt.{decimal}
 use Rattle.lw_cli.specs.declared.asked.Command.{Command}
 use Rattle.lw_cli.specs.declared.asked.Command.TheVariants.{Run, Check, Gen}
@@ -17,3 +17,8 @@ Ask words (Gen n) = IsInReach n × (words ≡ codes "gen" ∷ decimal n ∷ [])
 -- the words are no command
 abbrev pub AskNothing : List (List ℕ) → Type 0
 AskNothing words = (command : Command) → ¬ Ask words command
+
+-- this is the command that the words ask for, or they ask for none
+abbrev pub IsCommandOf : List (List ℕ) → Option Command → Type 0
+IsCommandOf words (Some command) = Ask words command
+IsCommandOf words None = AskNothing words

@@ -1,7 +1,7 @@
 ghost use Rattle.std.specs.Prelude.{◌∷◌, [], ◌<◌, ◌↔◌, get_or, map, string_bytes, IfOk, OnErr, IsTrue};
 ghost use Rattle.lw_cli.specs.declared.asked.Command.{Command};
-ghost use Rattle.lw_cli.specs.Asked.{Ask};
-ghost use Rattle.lw_cli.specs.Private.AskedWords.{IsCommandOf, IsNumberOf};
+ghost use Rattle.lw_cli.specs.Asked.{Ask, IsCommandOf};
+ghost use Rattle.lw_cli.specs.Private.AskedWords.{IsNumberOf};
 
 use crate::asked::{Command, FileName};
 use std::alloc::{AllocError, Global};

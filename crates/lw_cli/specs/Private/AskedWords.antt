@@ -4,12 +4,7 @@ use Rattle.std.specs.Fmt.{decimal}
 use Rattle.lw_io.specs.Files.{Files, IsHeldPart}
 use Rattle.lw_cli.specs.declared.asked.Command.{Command}
 use Rattle.lw_cli.specs.declared.asked.Command.TheVariants.{Run, Check, Gen}
-use Rattle.lw_cli.specs.Asked.{IsInReach, Ask, AskNothing}
-
--- this is the command that the words ask for, or they ask for none
-abbrev pub IsCommandOf : List (List ℕ) → Option Command → Type 0
-IsCommandOf words (Some command) = Ask words command
-IsCommandOf words None = AskNothing words
+use Rattle.lw_cli.specs.Asked.{IsInReach}
 
 -- this is the number that `gen` takes whose decimal digits the word is, or there is none
 abbrev pub IsNumberOf : List ℕ → Option ℕ → Type 0

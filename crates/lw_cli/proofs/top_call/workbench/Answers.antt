@@ -1,5 +1,5 @@
 use Rattle.std.proofs.Common.{inr, subst, map, string_bytes, Global}
-use Rattle.lw_cli.specs.Private.AskedWords.{IsCommandOf}
+use Rattle.lw_cli.specs.Asked.{IsCommandOf}
 use Rattle.lw_cli.proofs.SoundScripts.{sound_is_carried}
 use Rattle.lw_cli.proofs.top_call.workbench.Goals as goal
 
