@@ -38,8 +38,8 @@ use Rattle.lw_eval.specs.declared.trouble.Trouble.TheVariants.{NotModalised, Too
 use Rattle.lw_eval.specs.Evaluations.{Evaluation, Got, Fails, Is}
 use Rattle.lw_eval.specs.declared.fault.EvalFault.{EvalFault}
 use Rattle.lw_eval.specs.declared.fault.EvalFault.TheVariants.{Troubled, Memory}
-use Rattle.lw_eval.specs.Private.Given.{Faults, Gives, IsCall, IsUndecided, IsShown, shown_in}
-use Rattle.lw_eval.specs.Calls.{Decided, Certifies, Interpolates, Supported, Fixes, Translates, Lists, letters_of}
+use Rattle.lw_eval.specs.Private.Given.{Faults, Gives, IsCall, IsUndecided, IsShown, letters_of, shown_in}
+use Rattle.lw_eval.specs.Calls.{Decided, Certifies, Interpolates, Supported, Fixes, Translates, Lists}
 use Rattle.lw_eval.specs.Operators.{list_of}
 use Rattle.lw_eval.proofs.ItemsSeen.{list_with_last}
 

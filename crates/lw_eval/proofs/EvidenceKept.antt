@@ -12,20 +12,21 @@ use Rattle.lw_ast.specs.declared.function.Function.{Function}
 use Rattle.lw_ast.specs.declared.function.Function.TheVariants.{Provable, Certificate, Interpolate, Fixpoint, Nnf, Simplify, Goedel, Boxdot, Substitute, Vars, Depth, Count, Length, Item, Append, Smallest, Trace, Letterless}
 use Rattle.lw_ast.specs.Trees as tree
 use Rattle.lw_ast.specs.Trees.{Expression, Expressions, Operands}
-use Rattle.lw_value.specs.Values.{Val, Vals, vals, formula, truth, number, text, items, logic, certificate, naught, empty, item, weight}
+use Rattle.lw_value.specs.Values.{Val, Vals, vals, formula, truth, number, text, items, logic, certificate, naught, empty, item, weight, item_at, with_last}
 use Rattle.lw_value.specs.Evidence.{HasEvidence, HaveEvidence}
 use Rattle.lw_value.specs.Assignments.{value_at, put}
 use Rattle.lw_value.proofs.VariablesSeen.{value_at_evidence, put_evidence}
 use Rattle.lw_eval.specs.declared.trouble.Trouble.{Trouble}
-use Rattle.lw_eval.specs.Evaluations.{Evaluation, Got, Fails, Is, Given, Bind, Tells, holds, fails_to}
-use Rattle.lw_eval.specs.Operands.{formula_in, formulas_in, numbers_in, list_in, certificate_in, logic_and_formula, logic_and_formulas, variable_and_formula, formula_variable_formula, list_and_number, list_and_value, one, two, three}
-use Rattle.lw_eval.specs.Operators.{bound, in_range, calculated, plain, Compares, Tests, Truth, Both, Either, list_of}
+use Rattle.lw_eval.specs.declared.trouble.Trouble.TheVariants.{Range, Unbound}
+use Rattle.lw_eval.specs.Evaluations.{Evaluation, Got, Fails, found_or, Is, Given, Bind, Tells, holds, fails_to}
+use Rattle.lw_eval.specs.Operands.{formula_in, variable_in, number_in, list_in, logic_in, certificate_in, any_in, both, one, two, three}
+use Rattle.lw_eval.specs.Operators.{in_range, calculated, plain, Compares, Tests, Truth, Both, Either, list_of}
 use Rattle.lw_trace.specs.LetterlessTruth.{trace_of}
 use Rattle.lw_eval.proofs.ShrunkEvidence.{smallest_evident}
-use Rattle.lw_eval.specs.Calls.{Decided, decided, Traced, traced, trace_values, Certifies, by_proof, by_model, Interpolates, between, none, Supported, supported, Fixes, fixed, Translates, translated, Lists, lists, item_at, with_last, Calls}
+use Rattle.lw_eval.specs.Calls.{Decided, decided, Traced, traced, trace_values, Certifies, by_proof, by_model, Interpolates, between, none, Supported, supported, Fixes, fixed, Translates, translated, Lists, lists, Calls}
 use Rattle.lw_eval.specs.Expressions.{Variables, Eval, Chain, Evals}
-use Rattle.lw_eval.specs.Runs.{Act, End, Nothing, Then, Step, With, Assigns, Prints, Turns, Repeats, numbers_from, ListOf, Condition, Choice, Does, DoesStep, Run}
-use Rattle.lw_eval.specs.Private.Carried.{HaveItemsEvidence}
+use Rattle.lw_eval.specs.Runs.{Act, End, Nothing, Then, Step, With, Assigns, Prints, Turns, Repeats, numbers_from, Choice, Does, DoesStep, Run}
+use Rattle.lw_eval.specs.Private.Carried.{Condition, ListOf, HaveItemsEvidence}
 
 -- what is the only value
 abbrev the_value : {A : Type 0} → A → Evaluation A → A
@@ -45,14 +46,14 @@ given_evident : {A : Type 0} (e : Evaluation A) (second : A → Evaluation (Val 
 given_evident (Got x) second v each is = each x is
 given_evident (Fails t) second v each is = no_value v t is
 
-bound_evident : (env : Variables) (x : List ℕ) (o : Option (Val Formula)) (v : Val Formula) → HaveEvidence env → value_at env x ≡ o → Got v ≡ bound x o → HasEvidence v
+bound_evident : (env : Variables) (x : List ℕ) (o : Option (Val Formula)) (v : Val Formula) → HaveEvidence env → value_at env x ≡ o → Got v ≡ found_or (Unbound x) o → HasEvidence v
 bound_evident env x (Some w) v have found is = is_evident v w is (value_at_evidence env x w have found)
 bound_evident env x None v have found is = absurd (cc)
 
 in_range_evident : (n : ℕ) (v : Val Formula) → Got v ≡ in_range n → HasEvidence v
 in_range_evident n v is = by (nat_lt n (2 ^ 64)) is
   where
-    by : (b : Bool) → Got v ≡ (if b then Got (number n) else Fails Rattle.lw_eval.specs.declared.trouble.Trouble.TheVariants.Range) → HasEvidence v
+    by : (b : Bool) → Got v ≡ (if b then Got (number n) else Fails Range) → HasEvidence v
     by true is = is_evident v (number n) is tt
     by false is = no_value v _ is
 
@@ -60,7 +61,7 @@ calculated_evident : (s : Op) (m n : ℕ) (v : Val Formula) → Got v ≡ calcul
 calculated_evident Plus m n v is = in_range_evident (m + n) v is
 calculated_evident Minus m n v is = by (nat_le n m) is
   where
-    by : (b : Bool) → Got v ≡ (if b then in_range (m - n) else Fails Rattle.lw_eval.specs.declared.trouble.Trouble.TheVariants.Range) → HasEvidence v
+    by : (b : Bool) → Got v ≡ (if b then in_range (m - n) else Fails Range) → HasEvidence v
     by true is = in_range_evident (m - n) v is
     by false is = no_value v _ is
 calculated_evident Times m n v is = in_range_evident (m * n) v is
@@ -70,8 +71,8 @@ compared_evident Equal v w _ (plain _ _ (holds _)) = tt
 compared_evident Equal v w _ (plain _ _ (fails_to _)) = tt
 compared_evident Unequal v w _ (plain _ _ (holds _)) = tt
 compared_evident Unequal v w _ (plain _ _ (fails_to _)) = tt
-compared_evident Less v w u is = given_evident (numbers_in v w) _ u (λ n eq. is_evident u _ eq tt) is
-compared_evident AtMost v w u is = given_evident (numbers_in v w) _ u (λ n eq. is_evident u _ eq tt) is
+compared_evident Less v w u is = given_evident (both (number_in v) (number_in w)) _ u (λ n eq. is_evident u _ eq tt) is
+compared_evident AtMost v w u is = given_evident (both (number_in v) (number_in w)) _ u (λ n eq. is_evident u _ eq tt) is
 
 truth_evident : (test : Evaluation Bool → Type 0) (v : Val Formula) → Truth test (Got v) → HasEvidence v
 truth_evident test v (Bind.goes b _ is) = is_evident v (truth b) is tt
@@ -87,11 +88,11 @@ either_evident false right v is = truth_evident (Tests right) v is
 list_evident : (vs : Vals Formula) (v : Val Formula) → HaveItemsEvidence vs → Got v ≡ list_of vs → HasEvidence v
 list_evident vs v have is = by (nat_le (weight (items vs)) 65536) is
   where
-    by : (b : Bool) → Got v ≡ (if b then Got (items vs) else Fails Rattle.lw_eval.specs.declared.trouble.Trouble.TheVariants.Range) → HasEvidence v
+    by : (b : Bool) → Got v ≡ (if b then Got (items vs) else Fails Range) → HasEvidence v
     by true is = is_evident v (items vs) is have
     by false is = no_value v _ is
 
-item_evident : (vs : Vals Formula) (n : ℕ) (v : Val Formula) → HaveItemsEvidence vs → Got v ≡ item_at vs n → HasEvidence v
+item_evident : (vs : Vals Formula) (n : ℕ) (v : Val Formula) → HaveItemsEvidence vs → Got v ≡ found_or Range (item_at vs n) → HasEvidence v
 item_evident empty n v have is = no_value v _ is
 item_evident (item w ws) zero v have is = no_value v _ is
 item_evident (item w ws) (suc zero) v have is = is_evident v w is have.0
@@ -105,7 +106,7 @@ letters_evident : (names : List (List ℕ)) → HaveItemsEvidence (vals (map (λ
 letters_evident [] = tt
 letters_evident (p ∷ ps) = (tt, letters_evident ps)
 
-append_evident : (v w u : Val Formula) → HasEvidence v → HasEvidence w → Given (list_and_value v w) (λ x. Is (list_of (with_last x.0 x.1))) (Got u) → HasEvidence u
+append_evident : (v w u : Val Formula) → HasEvidence v → HasEvidence w → Given (both (list_in v) (any_in w)) (λ x. Is (list_of (with_last x.0 x.1))) (Got u) → HasEvidence u
 append_evident (items vs) w u has has2 is = list_evident (with_last vs w) u (last_evident vs w has has2) is
 append_evident (formula a) w u has has2 is = no_value u _ is
 append_evident (truth b) w u has has2 is = no_value u _ is
@@ -115,17 +116,17 @@ append_evident (logic l) w u has has2 is = no_value u _ is
 append_evident (certificate l a e) w u has has2 is = no_value u _ is
 append_evident naught w u has has2 is = no_value u _ is
 
-item_of_evident : (v w u : Val Formula) → HasEvidence v → Given (list_and_number v w) (λ x. Is (item_at x.0 x.1)) (Got u) → HasEvidence u
+item_of_evident : (v w u : Val Formula) → HasEvidence v → Given (both (list_in v) (number_in w)) (λ x. Is (found_or Range (item_at x.0 x.1))) (Got u) → HasEvidence u
 item_of_evident (items vs) (number n) u has is = item_evident vs n u has is
 item_of_evident _ _ u has is = no_value u _ is
 
-two_evident : {A : Type 0} (kinds : Val Formula → Val Formula → Evaluation A) (second : A → Evaluation (Val Formula) → Type 0) (vs : Vals Formula) (v : Val Formula)
-    → ((x y : Val Formula) → HasEvidence x → HasEvidence y → Given (kinds x y) second (Got v) → HasEvidence v)
-    → HaveItemsEvidence vs → Given (two kinds vs) second (Got v) → HasEvidence v
-two_evident kinds second empty v each have is = no_value v _ is
-two_evident kinds second (item x empty) v each have is = no_value v _ is
-two_evident kinds second (item x (item y empty)) v each have is = each x y have.0 have.1.0 is
-two_evident kinds second (item x (item y (item z ws))) v each have is = no_value v _ is
+two_evident : {A B : Type 0} (first : Val Formula → Evaluation A) (other : Val Formula → Evaluation B) (second : A × B → Evaluation (Val Formula) → Type 0) (vs : Vals Formula) (v : Val Formula)
+    → ((x y : Val Formula) → HasEvidence x → HasEvidence y → Given (both (first x) (other y)) second (Got v) → HasEvidence v)
+    → HaveItemsEvidence vs → Given (two first other vs) second (Got v) → HasEvidence v
+two_evident first other second empty v each have is = no_value v _ is
+two_evident first other second (item x empty) v each have is = no_value v _ is
+two_evident first other second (item x (item y empty)) v each have is = each x y have.0 have.1.0 is
+two_evident first other second (item x (item y (item z ws))) v each have is = no_value v _ is
 
 one_evident : {A : Type 0} (kind : Val Formula → Evaluation A) (second : A → Evaluation (Val Formula) → Type 0) (vs : Vals Formula) (v : Val Formula)
     → ((x : Val Formula) → HasEvidence x → Given (kind x) second (Got v) → HasEvidence v) → HaveItemsEvidence vs → Given (one kind vs) second (Got v) → HasEvidence v
@@ -166,21 +167,21 @@ lists_evident a v (lists names _ is) = list_evident _ v (letters_evident names) 
 
 -- each row of the table of functions
 call_evident : (f : Function) (vs : Vals Formula) (v : Val Formula) → HaveItemsEvidence vs → Calls f vs (Got v) → HasEvidence v
-call_evident Provable vs v have is = given_evident (two logic_and_formula vs) _ v (λ x h. provable_evident _ _ v h) is
-call_evident Certificate vs v have is = given_evident (two logic_and_formula vs) _ v (λ x h. certificate_evident x.0 x.1 v h) is
-call_evident Interpolate vs v have is = given_evident (three logic_and_formulas vs) _ v (λ x h. interpolate_evident x.0 x.1 x.2 _ v h) is
-call_evident Fixpoint vs v have is = given_evident (two variable_and_formula vs) _ v (λ x h. fixed_evident x.0 x.1 v h) is
+call_evident Provable vs v have is = given_evident (two logic_in formula_in vs) _ v (λ x h. provable_evident _ _ v h) is
+call_evident Certificate vs v have is = given_evident (two logic_in formula_in vs) _ v (λ x h. certificate_evident x.0 x.1 v h) is
+call_evident Interpolate vs v have is = given_evident (three logic_in formula_in formula_in vs) _ v (λ x h. interpolate_evident x.0 x.1.0 x.1.1 _ v h) is
+call_evident Fixpoint vs v have is = given_evident (two variable_in formula_in vs) _ v (λ x h. fixed_evident x.0 x.1 v h) is
 call_evident Nnf vs v have is = given_evident (one formula_in vs) _ v (λ a h. is_evident v _ h tt) is
 call_evident Simplify vs v have is = given_evident (one formula_in vs) _ v (λ a h. is_evident v _ h tt) is
 call_evident Goedel vs v have is = given_evident (one formula_in vs) _ v (λ a h. translated_evident a v h) is
 call_evident Boxdot vs v have is = given_evident (one formula_in vs) _ v (λ a h. is_evident v _ h tt) is
-call_evident Substitute vs v have is = given_evident (three formula_variable_formula vs) _ v (λ x h. is_evident v _ h tt) is
+call_evident Substitute vs v have is = given_evident (three formula_in variable_in formula_in vs) _ v (λ x h. is_evident v _ h tt) is
 call_evident Vars vs v have is = given_evident (one formula_in vs) _ v (λ a h. lists_evident a v h) is
 call_evident Depth vs v have is = given_evident (one formula_in vs) _ v (λ a h. is_evident v _ h tt) is
 call_evident Count vs v have is = given_evident (one formula_in vs) _ v (λ a h. is_evident v _ h tt) is
 call_evident Length vs v have is = given_evident (one list_in vs) _ v (λ xs h. is_evident v _ h tt) is
-call_evident Item vs v have is = two_evident list_and_number _ vs v (λ x y hx hy h. item_of_evident x y v hx h) have is
-call_evident Append vs v have is = two_evident list_and_value _ vs v (λ x y hx hy h. append_evident x y v hx hy h) have is
+call_evident Item vs v have is = two_evident list_in number_in _ vs v (λ x y hx hy h. item_of_evident x y v hx h) have is
+call_evident Append vs v have is = two_evident list_in any_in _ vs v (λ x y hx hy h. append_evident x y v hx hy h) have is
 call_evident Smallest vs v have is = one_evident certificate_in _ vs v (λ x hx h. smallest_evident x v hx h) have is
 call_evident Trace vs v have is = given_evident (one formula_in vs) _ v (λ a h. traced_evident a _ v (λ u k. list_evident (vals (trace_values a)) u (trace_evident a) k) h) is
 call_evident Letterless vs v have is = given_evident (one formula_in vs) _ v (λ a h. traced_evident a _ v (λ u k. is_evident u _ k tt) h) is
@@ -200,7 +201,7 @@ mutual
   eval_evident env (tree.prefixed sign a) v have (Bind.goes w _ is) = given_evident (formula_in w) _ v (λ x h. is_evident v _ h tt) is
   eval_evident env (tree.linked link.Either a b) v have (Bind.goes t _ is) = either_evident t (Eval env b) v is
   eval_evident env (tree.linked link.Both a b) v have (Bind.goes t _ is) = both_evident t (Eval env b) v is
-  eval_evident env (tree.linked (link.Binary j) a b) v have (Bind.goes w _ is) = given_evident (formulas_in w.0 w.1) _ v (λ x h. is_evident v _ h tt) is
+  eval_evident env (tree.linked (link.Binary j) a b) v have (Bind.goes w _ is) = given_evident (both (formula_in w.0) (formula_in w.1)) _ v (λ x h. is_evident v _ h tt) is
   eval_evident env (tree.chained k a bs) v have (Bind.goes w first is) = chain_evident env w bs v have (eval_evident env a w have first) is
   eval_evident env (tree.compared r a b) v have (Bind.goes w _ is) = compared_evident r w.0 w.1 v is
   eval_evident env (tree.denied a) v have (Bind.goes b _ is) = is_evident v _ is tt
@@ -210,7 +211,7 @@ mutual
   chain_evident : (env : Variables) (w : Val Formula) (bs : Operands) (v : Val Formula) → HaveEvidence env → HasEvidence w → Chain env w bs (Got v) → HasEvidence v
   chain_evident env w tree.no_more v have has is = is_evident v w is has
   chain_evident env w (tree.signed s b bs) v have has (Bind.goes u (Bind.goes x _ is) next) =
-      chain_evident env u bs v have (given_evident (numbers_in w x) _ u (λ n h. calculated_evident s n.0 n.1 u h) is) next
+      chain_evident env u bs v have (given_evident (both (number_in w) (number_in x)) _ u (λ n h. calculated_evident s n.0 n.1 u h) is) next
 
   -- so have the values of several
   pub evals_evident : (env : Variables) (es : Expressions) (vs : Vals Formula) → HaveEvidence env → Evals env es (Got vs) → HaveItemsEvidence vs

@@ -4,11 +4,11 @@ use Rattle.std.proofs.lemmas.List.{drop_all}
 use Rattle.lw_formula.specs.Formula.{Formula, letter}
 use Rattle.lw_pool.specs.declared.id.FormId.{FormId}
 use Rattle.lw_pool.specs.Region.{tree_at}
-use Rattle.lw_value.specs.Values.{Val, Vals, vals, seen, seen_all, AreLive, AreItemsLive, formula, item}
+use Rattle.lw_value.specs.Values.{Val, Vals, vals, seen, seen_all, AreLive, AreItemsLive, formula, item, item_at, with_last}
 use Rattle.lw_value.specs.ValueTexts.{count_of}
 use Rattle.lw_eval.specs.declared.trouble.Trouble.TheVariants.{Range}
-use Rattle.lw_eval.specs.Evaluations.{Got, Fails}
-use Rattle.lw_eval.specs.Calls.{item_at, with_last, letters_of}
+use Rattle.lw_eval.specs.Evaluations.{Got, Fails, found_or}
+use Rattle.lw_eval.specs.Private.Given.{letters_of}
 use Rattle.lw_eval.specs.Private.Remaining.{followed_by}
 use Rattle.lw_eval.proofs.EvaluationsRepeated.{followed_by_one, followed_by_none}
 
@@ -21,28 +21,28 @@ abbrev the_value : Val FormId → Option (Val FormId) → Val FormId
 the_value d (Some v) = v
 the_value d None = d
 
-found_from : (ts : List Formula) (vs : List (Val FormId)) (i : ℕ) (v : Val FormId) → slice_get vs i ≡ Some v → item_at (seen_all ts (vals vs)) (suc i) ≡ Got (seen ts v)
+found_from : (ts : List Formula) (vs : List (Val FormId)) (i : ℕ) (v : Val FormId) → slice_get vs i ≡ Some v → found_or Range (item_at (seen_all ts (vals vs)) (suc i)) ≡ Got (seen ts v)
 found_from ts [] i v h = absurd (cc)
 found_from ts (u ∷ vs) zero v h = ap (λ o. Got (seen ts (the_value u o))) h
 found_from ts (u ∷ vs) (suc i) v h = found_from ts vs i v h
 
-pub item_found : (ts : List Formula) (vs : List (Val FormId)) (n : ℕ) (v : Val FormId) → 1 ≤ n → slice_get vs (n - 1) ≡ Some v → item_at (seen_all ts (vals vs)) n ≡ Got (seen ts v)
-item_found ts vs n v h p = let q : suc (n - 1) ≡ n = omega (arith, h) in ap (item_at (seen_all ts (vals vs))) (sym q) ∙ found_from ts vs (n - 1) v p
+pub item_found : (ts : List Formula) (vs : List (Val FormId)) (n : ℕ) (v : Val FormId) → 1 ≤ n → slice_get vs (n - 1) ≡ Some v → found_or Range (item_at (seen_all ts (vals vs)) n) ≡ Got (seen ts v)
+item_found ts vs n v h p = let q : suc (n - 1) ≡ n = omega (arith, h) in ap (λ k. found_or Range (item_at (seen_all ts (vals vs)) k)) (sym q) ∙ found_from ts vs (n - 1) v p
 
-missing_from : (ts : List Formula) (vs : List (Val FormId)) (i : ℕ) → length vs ≤ i → item_at (seen_all ts (vals vs)) (suc i) ≡ Fails Range
+missing_from : (ts : List Formula) (vs : List (Val FormId)) (i : ℕ) → length vs ≤ i → found_or Range (item_at (seen_all ts (vals vs)) (suc i)) ≡ Fails Range
 missing_from ts [] i h = refl
 missing_from ts (u ∷ vs) zero h = absurd (omega (arith, h))
 missing_from ts (u ∷ vs) (suc i) h = missing_from ts vs i (omega (arith, h))
 
-none_at_zero : (ts : List Formula) (vs : List (Val FormId)) → item_at (seen_all ts (vals vs)) 0 ≡ Fails Range
+none_at_zero : (ts : List Formula) (vs : List (Val FormId)) → found_or Range (item_at (seen_all ts (vals vs)) 0) ≡ Fails Range
 none_at_zero ts [] = refl
 none_at_zero ts (u ∷ vs) = refl
 
-pub item_below : (ts : List Formula) (vs : List (Val FormId)) (n : ℕ) → n < 1 → item_at (seen_all ts (vals vs)) n ≡ Fails Range
-item_below ts vs n h = let q : n ≡ 0 = omega (arith, h) in ap (item_at (seen_all ts (vals vs))) q ∙ none_at_zero ts vs
+pub item_below : (ts : List Formula) (vs : List (Val FormId)) (n : ℕ) → n < 1 → found_or Range (item_at (seen_all ts (vals vs)) n) ≡ Fails Range
+item_below ts vs n h = let q : n ≡ 0 = omega (arith, h) in ap (λ k. found_or Range (item_at (seen_all ts (vals vs)) k)) q ∙ none_at_zero ts vs
 
-pub item_missing : (ts : List Formula) (vs : List (Val FormId)) (n : ℕ) → length vs < n → item_at (seen_all ts (vals vs)) n ≡ Fails Range
-item_missing ts vs n h = let q : suc (n - 1) ≡ n = omega (arith, h) in ap (item_at (seen_all ts (vals vs))) (sym q) ∙ missing_from ts vs (n - 1) (omega (arith, h))
+pub item_missing : (ts : List Formula) (vs : List (Val FormId)) (n : ℕ) → length vs < n → found_or Range (item_at (seen_all ts (vals vs)) n) ≡ Fails Range
+item_missing ts vs n h = let q : suc (n - 1) ≡ n = omega (arith, h) in ap (λ k. found_or Range (item_at (seen_all ts (vals vs)) k)) (sym q) ∙ missing_from ts vs (n - 1) (omega (arith, h))
 
 pub last_seen : (ts : List Formula) (vs : List (Val FormId)) (v : Val FormId) → seen_all ts (vals (vs ++ v ∷ [])) ≡ with_last (seen_all ts (vals vs)) (seen ts v)
 last_seen ts [] v = refl

@@ -8,9 +8,10 @@ use Rattle.lw_value.specs.Assignments.{put}
 use Rattle.lw_value.proofs.OneText.{one_line}
 use Rattle.lw_eval.specs.declared.trouble.Trouble.TheVariants.{StepLimit}
 use Rattle.lw_eval.specs.Evaluations.{Evaluation, Got, Fails, Is, Pair}
-use Rattle.lw_eval.specs.Operands.{numbers_in, list_in}
+use Rattle.lw_eval.specs.Operands.{number_in, list_in, both}
 use Rattle.lw_eval.specs.Expressions.{Variables, Eval, Evals}
-use Rattle.lw_eval.specs.Runs.{step_limit, Act, End, Done, Stopped, Cut, Nothing, Then, Step, With, Assigns, Prints, Turns, Repeats, numbers_from, Bounds, ListOf, Condition, Choice, Does, DoesStep, Run}
+use Rattle.lw_eval.specs.Runs.{step_limit, Act, End, Done, Stopped, Cut, Nothing, Then, Step, With, Assigns, Prints, Turns, Repeats, numbers_from, Bounds, Choice, Does, DoesStep, Run}
+use Rattle.lw_eval.specs.Private.Carried.{Condition, ListOf}
 use Rattle.lw_eval.specs.Plain.{IsPlain, IsPlainKind, IsPlainStatement, ArePlainStatements}
 use Rattle.lw_eval.specs.Laws.{OneOutput}
 use Rattle.lw_eval.proofs.RunsCarried.{cut_not_done}
@@ -171,8 +172,8 @@ one_condition a plain env = one_tests (Eval env a) (one_value env a plain)
 
 one_bounds : (a b : Expression) → IsPlain a → IsPlain b → (env : Variables) → IsOne (Bounds a b env)
 one_bounds a b plain plain2 env =
-    one_bind (Pair (Eval env a) (Eval env b)) (λ v. Is (numbers_in v.0 v.1)) (one_pair (Eval env a) (Eval env b) (one_value env a plain) (one_value env b plain2))
-    (λ v. one_is (numbers_in v.0 v.1))
+    one_bind (Pair (Eval env a) (Eval env b)) (λ v. Is (both (number_in v.0) (number_in v.1))) (one_pair (Eval env a) (Eval env b) (one_value env a plain) (one_value env b plain2))
+    (λ v. one_is (both (number_in v.0) (number_in v.1)))
 
 one_list : (a : Expression) → IsPlain a → (env : Variables) → IsOne (ListOf a env)
 one_list a plain env = one_bind (Eval env a) (λ v. Is (list_in v)) (one_value env a plain) (λ v. one_is (list_in v))

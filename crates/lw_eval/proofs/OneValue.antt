@@ -19,17 +19,18 @@ use Rattle.lw_ast.specs.declared.operator.Relation.{Relation}
 use Rattle.lw_ast.specs.declared.operator.Relation.TheVariants.{Equal, Unequal, Less, AtMost}
 use Rattle.lw_ast.specs.Trees as tree
 use Rattle.lw_ast.specs.Trees.{Expression, Expressions, Operands}
-use Rattle.lw_value.specs.Values.{Val, Vals, formula, truth, number, text, logic, naught, empty, item, vals}
+use Rattle.lw_value.specs.Values.{Val, Vals, formula, truth, number, text, logic, naught, empty, item, vals, item_at, with_last}
 use Rattle.lw_value.specs.Assignments.{value_at}
 use Rattle.lw_value.specs.ValueTexts.{count_of}
 use Rattle.lw_eval.specs.declared.trouble.Trouble.{Trouble}
-use Rattle.lw_eval.specs.declared.trouble.Trouble.TheVariants.{NotIntuitionistic, NotLetterless}
-use Rattle.lw_eval.specs.Evaluations.{Evaluation, Got, Fails, Is, Given, Bind, Pair, Tells}
-use Rattle.lw_eval.specs.Operands.{formula_in, formulas_in, numbers_in, truth_in, list_in, logic_and_formula, variable_and_formula, formula_variable_formula, list_and_number, list_and_value, one, two, three}
-use Rattle.lw_eval.specs.Operators.{bound, prefixed_by, Prefixes, Joins, calculated, Calculates, Compared, Compares, Tests, Truth, Denies, Both, Either, list_of}
+use Rattle.lw_eval.specs.declared.trouble.Trouble.TheVariants.{NotIntuitionistic, NotLetterless, Range, Unbound}
+use Rattle.lw_eval.specs.Evaluations.{Evaluation, Got, Fails, found_or, Is, Given, Bind, Pair, Tells}
+use Rattle.lw_eval.specs.Operands.{formula_in, variable_in, truth_in, number_in, list_in, logic_in, any_in, both, one, two, three}
+use Rattle.lw_eval.specs.Operators.{prefixed_by, Prefixes, Joins, calculated, Calculates, Compared, Compares, Tests, Truth, Both, Either, list_of}
 use Rattle.lw_trace.specs.LetterlessForm.{letterless_of}
-use Rattle.lw_eval.specs.Calls.{Decided, Traced, trace_values, Fixes, Translates, letters_of, Lists, item_at, with_last, Calls}
+use Rattle.lw_eval.specs.Calls.{Decided, Traced, trace_values, Fixes, Translates, Lists, Calls}
 use Rattle.lw_eval.specs.Expressions.{Variables, Eval, Chain, Evals}
+use Rattle.lw_eval.specs.Private.Given.{letters_of}
 use Rattle.lw_eval.specs.Plain.{GivesOne, IsPlain, ArePlain, AreOperandsPlain}
 use Rattle.lw_eval.proofs.NamesInOrder.{one_list_of_variables, one_first_variable}
 
@@ -97,8 +98,8 @@ one_compared v w answer sole r s (Compared.certified not) (Compared.certified no
 one_compares : (r : Relation) (v w : Val Formula) → IsOne (Compares r v w)
 one_compares Equal v w = one_compared v w (Tells (v ≡ w)) (one_tells (v ≡ w))
 one_compares Unequal v w = one_compared v w (Tells (v ≢ w)) (one_tells (v ≢ w))
-one_compares Less v w = one_given (numbers_in v w) (λ n. Is (Got (truth (nat_lt n.0 n.1)))) (λ n. one_is (Got (truth (nat_lt n.0 n.1))))
-one_compares AtMost v w = one_given (numbers_in v w) (λ n. Is (Got (truth (nat_le n.0 n.1)))) (λ n. one_is (Got (truth (nat_le n.0 n.1))))
+one_compares Less v w = one_given (both (number_in v) (number_in w)) (λ n. Is (Got (truth (nat_lt n.0 n.1)))) (λ n. one_is (Got (truth (nat_lt n.0 n.1))))
+one_compares AtMost v w = one_given (both (number_in v) (number_in w)) (λ n. Is (Got (truth (nat_le n.0 n.1)))) (λ n. one_is (Got (truth (nat_le n.0 n.1))))
 
 -- functions
 one_decided : (a : Formula) (answer : Evaluation (Val Formula) → Type 0) → IsOne answer → IsOne (Decided a answer)
@@ -150,21 +151,21 @@ one_traced a answer sole r s (Traced.lettered p first) (Traced.traced l m) = abs
 one_traced a answer sole r s (Traced.lettered p first) (Traced.lettered q second) = ap (λ x. Fails (NotLetterless x)) (one_first_variable a p q first second)
 
 one_call : (f : Function) (vs : Vals Formula) → GivesOne f → IsOne (Calls f vs)
-one_call Provable vs gives = one_given (two logic_and_formula vs) _ (λ x. one_decided x.1 _ (one_tells (Valid x.0 x.1)))
+one_call Provable vs gives = one_given (two logic_in formula_in vs) _ (λ x. one_decided x.1 _ (one_tells (Valid x.0 x.1)))
 one_call Certificate vs gives = absurd gives
 one_call Interpolate vs gives = absurd gives
-one_call Fixpoint vs gives = one_given (two variable_and_formula vs) _ (λ x. one_fixes x.0 x.1)
+one_call Fixpoint vs gives = one_given (two variable_in formula_in vs) _ (λ x. one_fixes x.0 x.1)
 one_call Nnf vs gives = one_given (one formula_in vs) _ (λ a. one_is (Got (formula (nnf a))))
 one_call Simplify vs gives = one_given (one formula_in vs) _ (λ a. one_is (Got (formula (simplify a))))
 one_call Goedel vs gives = one_given (one formula_in vs) _ (λ a. one_translates a)
 one_call Boxdot vs gives = one_given (one formula_in vs) _ (λ a. one_is (Got (formula (boxdot a))))
-one_call Substitute vs gives = one_given (three formula_variable_formula vs) _ (λ x. one_is (Got (formula (replace x.1 x.2 x.0))))
+one_call Substitute vs gives = one_given (three formula_in variable_in formula_in vs) _ (λ x. one_is (Got (formula (replace x.1.0 x.1.1 x.0))))
 one_call Vars vs gives = one_given (one formula_in vs) _ (λ a. one_lists a)
 one_call Depth vs gives = one_given (one formula_in vs) _ (λ a. one_is (Got (number (depth a))))
 one_call Count vs gives = one_given (one formula_in vs) _ (λ a. one_is (Got (number (subformula_count a))))
 one_call Length vs gives = one_given (one list_in vs) _ (λ xs. one_is (Got (number (count_of xs))))
-one_call Item vs gives = one_given (two list_and_number vs) _ (λ x. one_is (item_at x.0 x.1))
-one_call Append vs gives = one_given (two list_and_value vs) _ (λ x. one_is (list_of (with_last x.0 x.1)))
+one_call Item vs gives = one_given (two list_in number_in vs) _ (λ x. one_is (found_or Range (item_at x.0 x.1)))
+one_call Append vs gives = one_given (two list_in any_in vs) _ (λ x. one_is (list_of (with_last x.0 x.1)))
 one_call Smallest vs gives = absurd gives
 one_call Trace vs gives = one_given (one formula_in vs) _ (λ a. one_traced a _ (one_decided a _ (one_is (list_of (vals (trace_values a))))))
 one_call Letterless vs gives = one_given (one formula_in vs) _ (λ a. one_traced a _ (one_decided a _ (one_is (Got (formula (letterless_of a))))))
@@ -175,7 +176,7 @@ mutual
   one_value env (tree.text bytes) plain = one_is (Got (text bytes))
   one_value env (tree.truth b) plain = one_is (Got (truth b))
   one_value env tree.nothing plain = one_is (Got naught)
-  one_value env (tree.upper x) plain = one_is (bound x (value_at env x))
+  one_value env (tree.upper x) plain = one_is (found_or (Unbound x) (value_at env x))
   one_value env (tree.logic l) plain = one_is (Got (logic l))
   one_value env (tree.variable p) plain = one_is (Got (formula (letter p)))
   one_value env tree.bot plain = one_is (Got (formula falsum))
@@ -188,12 +189,12 @@ mutual
       one_bind (Tests (Eval env a)) (λ t. Both t (Eval env b)) (one_tests (Eval env a) (one_value env a plain.0)) (one_both (Eval env b) (one_value env b plain.1))
   one_value env (tree.linked (link.Binary j) a b) plain =
       one_bind (Pair (Eval env a) (Eval env b)) (λ v. Joins j v.0 v.1) (one_pair (Eval env a) (Eval env b) (one_value env a plain.0) (one_value env b plain.1))
-      (λ v. one_given (formulas_in v.0 v.1) _ (λ c. one_is (Got (formula (join j c.0 c.1)))))
+      (λ v. one_given (both (formula_in v.0) (formula_in v.1)) _ (λ c. one_is (Got (formula (join j c.0 c.1)))))
   one_value env (tree.chained k a bs) plain = one_bind (Eval env a) (λ v. Chain env v bs) (one_value env a plain.0) (λ v. one_chain env v bs plain.1)
   one_value env (tree.compared r a b) plain =
       one_bind (Pair (Eval env a) (Eval env b)) (λ v. Compares r v.0 v.1) (one_pair (Eval env a) (Eval env b) (one_value env a plain.0) (one_value env b plain.1))
       (λ v. one_compares r v.0 v.1)
-  one_value env (tree.denied a) plain = one_bind (Tests (Eval env a)) Denies (one_tests (Eval env a) (one_value env a plain)) (λ b. one_is _)
+  one_value env (tree.denied a) plain = one_bind (Tests (Eval env a)) _ (one_tests (Eval env a) (one_value env a plain)) (λ b. one_is _)
   one_value env (tree.list es) plain = one_bind (Evals env es) (λ vs. Is (list_of vs)) (one_values env es plain) (λ vs. one_is (list_of vs))
   one_value env (tree.call f es) plain = one_bind (Evals env es) (Calls f) (one_values env es plain.1) (λ vs. one_call f vs plain.0)
 
@@ -201,7 +202,7 @@ mutual
   one_chain env v tree.no_more plain = one_is (Got v)
   one_chain env v (tree.signed s b bs) plain =
       one_bind (Bind (Eval env b) (Calculates s v)) (λ w. Chain env w bs)
-      (one_bind (Eval env b) (Calculates s v) (one_value env b plain.0) (λ w. one_given (numbers_in v w) _ (λ n. one_is (calculated s n.0 n.1))))
+      (one_bind (Eval env b) (Calculates s v) (one_value env b plain.0) (λ w. one_given (both (number_in v) (number_in w)) _ (λ n. one_is (calculated s n.0 n.1))))
       (λ w. one_chain env w bs plain.1)
 
   pub one_values : (env : Variables) (es : Expressions) → ArePlain es → IsOne (Evals env es)

@@ -1,5 +1,5 @@
 -- What functions give for their arguments: one row each.
-use Rattle.std.specs.Prelude.{◌≡◌, ℕ, zero, suc, ◌<◌, ◌≤◌, List, ◌∷◌, length, map, true, false}
+use Rattle.std.specs.Prelude.{◌≡◌, ℕ, ◌<◌, ◌≤◌, List, ◌∷◌, length, map, true, false}
 use Rattle.lw_formula.specs.declared.logic.Logic.{Logic}
 use Rattle.lw_formula.specs.Formula.{Formula, letter, impl, depth, nodes, subformula_count}
 use Rattle.lw_formula.specs.FiniteModel.{FiniteModel}
@@ -26,11 +26,11 @@ use Rattle.lw_trace.specs.LetterlessForm.{letterless_of}
 use Rattle.lw_trace.specs.TraceFaults.{IsFirstVariable}
 use Rattle.lw_ast.specs.declared.function.Function.{Function}
 use Rattle.lw_ast.specs.declared.function.Function.TheVariants.{Provable, Certificate, Interpolate, Fixpoint, Nnf, Simplify, Goedel, Boxdot, Substitute, Vars, Depth, Count, Length, Item, Append, Smallest, Trace, Letterless}
-use Rattle.lw_value.specs.Values.{Evidence, proved, refuted, Val, Vals, formula, truth, number, certificate, naught, empty, item, vals}
+use Rattle.lw_value.specs.Values.{Evidence, proved, refuted, Val, Vals, formula, truth, number, certificate, naught, vals, item_at, with_last}
 use Rattle.lw_value.specs.ValueTexts.{count_of}
 use Rattle.lw_eval.specs.declared.trouble.Trouble.TheVariants.{Range, TooLarge, NoInterpolants, NotModalised, TooManyBoxes, NotIntuitionistic, NotLetterless}
-use Rattle.lw_eval.specs.Evaluations.{Evaluation, Got, Fails, Is, Given, Tells}
-use Rattle.lw_eval.specs.Operands.{formula_in, list_in, certificate_in, logic_and_formula, logic_and_formulas, variable_and_formula, formula_variable_formula, list_and_number, list_and_value, one, two, three}
+use Rattle.lw_eval.specs.Evaluations.{Evaluation, Got, Fails, found_or, Is, Given, Tells}
+use Rattle.lw_eval.specs.Operands.{formula_in, variable_in, number_in, list_in, logic_in, certificate_in, any_in, one, two, three}
 use Rattle.lw_eval.specs.Operators.{list_of}
 
 -- a formula is decided where it hasn't too many distinct subformulas
@@ -80,44 +80,28 @@ pub data Shrinks (l : Logic) (a : Formula) : Evidence Formula → Evaluation (Va
   quotient : {m : FiniteModel} {w : ℕ} (q : Quotient) → IsQuotient m q →
       Shrinks l a (refuted m w) (Got (certificate l a (refuted q.model (place_of q.places w))))
 
--- variables of these names, as formulas
-abbrev pub letters_of : List (List ℕ) → List (Val Formula)
-letters_of names = map (λ p. formula (letter p)) names
-
 -- the variables of the formula as formulas, each once, in byte order
 pub data Lists (a : Formula) : Evaluation (Val Formula) → Type 0 where
   lists : {r : Evaluation (Val Formula)} (names : List (List ℕ)) → AreVariables a names →
-      Is (list_of (vals (letters_of names))) r → Lists a r
-
--- the n-th item, from 1
-abbrev pub item_at : Vals Formula → ℕ → Evaluation (Val Formula)
-item_at empty n = Fails Range
-item_at (item v vs) zero = Fails Range
-item_at (item v vs) (suc zero) = Got v
-item_at (item v vs) (suc (suc n)) = item_at vs (suc n)
-
--- the items with one more behind them
-abbrev pub with_last : Vals Formula → Val Formula → Vals Formula
-with_last empty v = item v empty
-with_last (item w ws) v = item w (with_last ws v)
+      Is (list_of (vals (map (λ p. formula (letter p)) names))) r → Lists a r
 
 -- the table of functions: the kinds of the arguments, and then the value or the function's own refusal
 abbrev pub Calls : Function → Vals Formula → Evaluation (Val Formula) → Type 0
-Calls Provable vs = Given (two logic_and_formula vs) (λ x. Decided x.1 (Tells (Valid x.0 x.1)))
-Calls Certificate vs = Given (two logic_and_formula vs) (λ x. Decided x.1 (Certifies x.0 x.1))
-Calls Interpolate vs = Given (three logic_and_formulas vs) (λ x. Supported x.0 (Decided (impl x.1 x.2) (Interpolates x.0 x.1 x.2)))
-Calls Fixpoint vs = Given (two variable_and_formula vs) (λ x. Fixes x.0 x.1)
+Calls Provable vs = Given (two logic_in formula_in vs) (λ x. Decided x.1 (Tells (Valid x.0 x.1)))
+Calls Certificate vs = Given (two logic_in formula_in vs) (λ x. Decided x.1 (Certifies x.0 x.1))
+Calls Interpolate vs = Given (three logic_in formula_in formula_in vs) (λ x. Supported x.0 (Decided (impl x.1.0 x.1.1) (Interpolates x.0 x.1.0 x.1.1)))
+Calls Fixpoint vs = Given (two variable_in formula_in vs) (λ x. Fixes x.0 x.1)
 Calls Nnf vs = Given (one formula_in vs) (λ a. Is (Got (formula (nnf a))))
 Calls Simplify vs = Given (one formula_in vs) (λ a. Is (Got (formula (simplify a))))
 Calls Goedel vs = Given (one formula_in vs) (λ a. Translates a)
 Calls Boxdot vs = Given (one formula_in vs) (λ a. Is (Got (formula (boxdot a))))
-Calls Substitute vs = Given (three formula_variable_formula vs) (λ x. Is (Got (formula (replace x.1 x.2 x.0))))
+Calls Substitute vs = Given (three formula_in variable_in formula_in vs) (λ x. Is (Got (formula (replace x.1.0 x.1.1 x.0))))
 Calls Vars vs = Given (one formula_in vs) (λ a. Lists a)
 Calls Depth vs = Given (one formula_in vs) (λ a. Is (Got (number (depth a))))
 Calls Count vs = Given (one formula_in vs) (λ a. Is (Got (number (subformula_count a))))
 Calls Length vs = Given (one list_in vs) (λ xs. Is (Got (number (count_of xs))))
-Calls Item vs = Given (two list_and_number vs) (λ x. Is (item_at x.0 x.1))
-Calls Append vs = Given (two list_and_value vs) (λ x. Is (list_of (with_last x.0 x.1)))
+Calls Item vs = Given (two list_in number_in vs) (λ x. Is (found_or Range (item_at x.0 x.1)))
+Calls Append vs = Given (two list_in any_in vs) (λ x. Is (list_of (with_last x.0 x.1)))
 Calls Smallest vs = Given (one certificate_in vs) (λ c. Shrinks c.0 c.1 c.2)
 Calls Trace vs = Given (one formula_in vs) (λ a. Traced a (Decided a (Is (list_of (vals (trace_values a))))))
 Calls Letterless vs = Given (one formula_in vs) (λ a. Traced a (Decided a (Is (Got (formula (letterless_of a))))))

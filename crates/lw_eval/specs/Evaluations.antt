@@ -1,5 +1,5 @@
 -- What an expression comes to, and how one evaluation follows on another.
-use Rattle.std.specs.Prelude.{◌≡◌, true, false}
+use Rattle.std.specs.Prelude.{◌≡◌, true, false, Option, Some, None}
 use Rattle.lw_formula.specs.Formula.{Formula}
 use Rattle.lw_value.specs.Values.{Val, truth}
 use Rattle.lw_eval.specs.declared.trouble.Trouble.{Trouble}
@@ -8,6 +8,11 @@ use Rattle.lw_eval.specs.declared.trouble.Trouble.{Trouble}
 pub data Evaluation (A : Type 0) : Type 0 where
   Got : A → Evaluation A
   Fails : Trouble → Evaluation A
+
+-- what there is, else this trouble
+abbrev pub found_or : {A : Type 0} → Trouble → Option A → Evaluation A
+found_or t (Some v) = Got v
+found_or t None = Fails t
 
 -- it comes to this alone
 abbrev pub Is : {A : Type 0} → Evaluation A → Evaluation A → Type 0

@@ -12,60 +12,44 @@ abbrev pub formula_in : Val Formula → Evaluation Formula
 formula_in (formula a) = Got a
 formula_in _ = Fails Kind
 
+-- a single propositional variable
+abbrev pub variable_in : Val Formula → Evaluation (List ℕ)
+variable_in (formula (letter p)) = Got p
+variable_in _ = Fails Kind
+
 -- a truth value
 abbrev pub truth_in : Val Formula → Evaluation Bool
 truth_in (truth b) = Got b
 truth_in _ = Fails Kind
+
+-- a number
+abbrev pub number_in : Val Formula → Evaluation ℕ
+number_in (number n) = Got n
+number_in _ = Fails Kind
 
 -- a list
 abbrev pub list_in : Val Formula → Evaluation (Vals Formula)
 list_in (items vs) = Got vs
 list_in _ = Fails Kind
 
+-- a logic
+abbrev pub logic_in : Val Formula → Evaluation Logic
+logic_in (logic l) = Got l
+logic_in _ = Fails Kind
+
 -- a certificate: its logic, its formula and what it shows of it
 abbrev pub certificate_in : Val Formula → Evaluation (Logic × Formula × Evidence Formula)
 certificate_in (certificate l a e) = Got (l, a, e)
 certificate_in _ = Fails Kind
 
--- two formulas
-abbrev pub formulas_in : Val Formula → Val Formula → Evaluation (Formula × Formula)
-formulas_in (formula a) (formula b) = Got (a, b)
-formulas_in _ _ = Fails Kind
+-- any value
+abbrev pub any_in : Val Formula → Evaluation (Val Formula)
+any_in v = Got v
 
--- two numbers
-abbrev pub numbers_in : Val Formula → Val Formula → Evaluation (ℕ × ℕ)
-numbers_in (number m) (number n) = Got (m, n)
-numbers_in _ _ = Fails Kind
-
--- a logic and a formula
-abbrev pub logic_and_formula : Val Formula → Val Formula → Evaluation (Logic × Formula)
-logic_and_formula (logic l) (formula a) = Got (l, a)
-logic_and_formula _ _ = Fails Kind
-
--- a logic and two formulas
-abbrev pub logic_and_formulas : Val Formula → Val Formula → Val Formula → Evaluation (Logic × Formula × Formula)
-logic_and_formulas (logic l) (formula a) (formula b) = Got (l, a, b)
-logic_and_formulas _ _ _ = Fails Kind
-
--- a single propositional variable and a formula
-abbrev pub variable_and_formula : Val Formula → Val Formula → Evaluation (List ℕ × Formula)
-variable_and_formula (formula (letter p)) (formula a) = Got (p, a)
-variable_and_formula _ _ = Fails Kind
-
--- a formula, a single propositional variable and a formula
-abbrev pub formula_variable_formula : Val Formula → Val Formula → Val Formula → Evaluation (Formula × List ℕ × Formula)
-formula_variable_formula (formula a) (formula (letter p)) (formula b) = Got (a, p, b)
-formula_variable_formula _ _ _ = Fails Kind
-
--- a list and a number
-abbrev pub list_and_number : Val Formula → Val Formula → Evaluation (Vals Formula × ℕ)
-list_and_number (items vs) (number n) = Got (vs, n)
-list_and_number _ _ = Fails Kind
-
--- a list and any value
-abbrev pub list_and_value : Val Formula → Val Formula → Evaluation (Vals Formula × Val Formula)
-list_and_value (items vs) v = Got (vs, v)
-list_and_value _ _ = Fails Kind
+-- both, where each is of its kind
+abbrev pub both : {A B : Type 0} → Evaluation A → Evaluation B → Evaluation (A × B)
+both (Got x) (Got y) = Got (x, y)
+both _ _ = Fails Kind
 
 -- the one argument, of this kind
 abbrev pub one : {A : Type 0} → (Val Formula → Evaluation A) → Vals Formula → Evaluation A
@@ -73,11 +57,12 @@ one kind (item v empty) = kind v
 one kind _ = Fails Kind
 
 -- the two arguments, of these kinds
-abbrev pub two : {A : Type 0} → (Val Formula → Val Formula → Evaluation A) → Vals Formula → Evaluation A
-two kinds (item v (item w empty)) = kinds v w
-two kinds _ = Fails Kind
+abbrev pub two : {A B : Type 0} → (Val Formula → Evaluation A) → (Val Formula → Evaluation B) → Vals Formula → Evaluation (A × B)
+two first second (item v (item w empty)) = both (first v) (second w)
+two first second _ = Fails Kind
 
 -- the three arguments, of these kinds
-abbrev pub three : {A : Type 0} → (Val Formula → Val Formula → Val Formula → Evaluation A) → Vals Formula → Evaluation A
-three kinds (item u (item v (item w empty))) = kinds u v w
-three kinds _ = Fails Kind
+abbrev pub three : {A B C : Type 0} → (Val Formula → Evaluation A) → (Val Formula → Evaluation B) → (Val Formula → Evaluation C) →
+    Vals Formula → Evaluation (A × (B × C))
+three first second third (item u (item v (item w empty))) = both (first u) (both (second v) (third w))
+three first second third _ = Fails Kind

@@ -1,5 +1,5 @@
 -- What operators give for their operands.
-use Rattle.std.specs.Prelude.{◌≡◌, ◌≢◌, ℕ, ◌+◌, ◌-◌, ◌*◌, ◌^◌, nat_le, nat_lt, Bool, true, false, not, List, Option, Some, None, if◌then◌else◌}
+use Rattle.std.specs.Prelude.{◌≡◌, ◌≢◌, ℕ, ◌+◌, ◌-◌, ◌*◌, ◌^◌, nat_le, nat_lt, Bool, true, false, if◌then◌else◌}
 use Rattle.lw_formula.specs.declared.joint.Joint.{Joint}
 use Rattle.lw_formula.specs.Formula.{Formula, neg, nec, poss}
 use Rattle.lw_formula.specs.Joint.{join}
@@ -11,18 +11,13 @@ use Rattle.lw_ast.specs.declared.operator.Relation.{Relation}
 use Rattle.lw_ast.specs.declared.operator.Relation.TheVariants.{Equal, Unequal, Less, AtMost}
 use Rattle.lw_value.specs.Values.{Val, Vals, formula, truth, number, items, weight}
 use Rattle.lw_value.specs.Evidence.{HasNoCertificate}
-use Rattle.lw_eval.specs.declared.trouble.Trouble.TheVariants.{Kind, Range, Unbound}
+use Rattle.lw_eval.specs.declared.trouble.Trouble.TheVariants.{Kind, Range}
 use Rattle.lw_eval.specs.Evaluations.{Evaluation, Got, Fails, Is, Given, Bind, Tells}
-use Rattle.lw_eval.specs.Operands.{formula_in, formulas_in, numbers_in, truth_in}
+use Rattle.lw_eval.specs.Operands.{formula_in, number_in, truth_in, both}
 
 -- the greatest weight of a list
 abbrev pub weight_limit : ℕ
 weight_limit = 65536
-
--- the value that a script variable has
-abbrev pub bound : List ℕ → Option (Val Formula) → Evaluation (Val Formula)
-bound x (Some v) = Got v
-bound x None = Fails (Unbound x)
 
 -- `~`, `box` and `dia` before a formula
 abbrev pub prefixed_by : Prefix → Formula → Formula
@@ -36,7 +31,7 @@ Prefixes sign v = Given (formula_in v) (λ a. Is (Got (formula (prefixed_by sign
 
 -- `&`, `v`, `->` and `<->` between formulas
 abbrev pub Joins : Joint → Val Formula → Val Formula → Evaluation (Val Formula) → Type 0
-Joins j v w = Given (formulas_in v w) (λ a. Is (Got (formula (join j a.0 a.1))))
+Joins j v w = Given (both (formula_in v) (formula_in w)) (λ a. Is (Got (formula (join j a.0 a.1))))
 
 -- numbers go from 0 to 2^64 - 1
 abbrev pub in_range : ℕ → Evaluation (Val Formula)
@@ -50,7 +45,7 @@ calculated Times m n = in_range (m * n)
 
 -- the value of such a sign between two values: the number, if both are numbers
 abbrev pub Calculates : Op → Val Formula → Val Formula → Evaluation (Val Formula) → Type 0
-Calculates s v w = Given (numbers_in v w) (λ n. Is (calculated s n.0 n.1))
+Calculates s v w = Given (both (number_in v) (number_in w)) (λ n. Is (calculated s n.0 n.1))
 
 -- values are equal or not where no certificate stands in them, inside lists too
 pub data Compared (v w : Val Formula) (answer : Evaluation (Val Formula) → Type 0) : Evaluation (Val Formula) → Type 0 where
@@ -61,8 +56,8 @@ pub data Compared (v w : Val Formula) (answer : Evaluation (Val Formula) → Typ
 abbrev pub Compares : Relation → Val Formula → Val Formula → Evaluation (Val Formula) → Type 0
 Compares Equal v w = Compared v w (Tells (v ≡ w))
 Compares Unequal v w = Compared v w (Tells (v ≢ w))
-Compares Less v w = Given (numbers_in v w) (λ n. Is (Got (truth (nat_lt n.0 n.1))))
-Compares AtMost v w = Given (numbers_in v w) (λ n. Is (Got (truth (nat_le n.0 n.1))))
+Compares Less v w = Given (both (number_in v) (number_in w)) (λ n. Is (Got (truth (nat_lt n.0 n.1))))
+Compares AtMost v w = Given (both (number_in v) (number_in w)) (λ n. Is (Got (truth (nat_le n.0 n.1))))
 
 -- a truth value of what has a value
 abbrev pub Tests : (Evaluation (Val Formula) → Type 0) → Evaluation Bool → Type 0
@@ -71,10 +66,6 @@ Tests value = Bind value (λ v. Is (truth_in v))
 -- and as a value again
 abbrev pub Truth : (Evaluation Bool → Type 0) → Evaluation (Val Formula) → Type 0
 Truth test = Bind test (λ b. Is (Got (truth b)))
-
--- `not`
-abbrev pub Denies : Bool → Evaluation (Val Formula) → Type 0
-Denies b = Is (Got (truth (not b)))
 
 -- `and`: where the left side is no, the right one isn't evaluated
 abbrev pub Both : Bool → (Evaluation (Val Formula) → Type 0) → Evaluation (Val Formula) → Type 0

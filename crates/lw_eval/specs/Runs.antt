@@ -10,7 +10,7 @@ use Rattle.lw_value.specs.ValueTexts.{line_measure, IsLineOf}
 use Rattle.lw_eval.specs.declared.trouble.Trouble.{Trouble}
 use Rattle.lw_eval.specs.declared.trouble.Trouble.TheVariants.{TextLimit, StepLimit}
 use Rattle.lw_eval.specs.Evaluations.{Evaluation, Got, Fails, Is, Bind, Pair}
-use Rattle.lw_eval.specs.Operands.{numbers_in, list_in}
+use Rattle.lw_eval.specs.Operands.{number_in, list_in, both}
 use Rattle.lw_eval.specs.Operators.{Tests}
 use Rattle.lw_eval.specs.Expressions.{Variables, Eval, Evals}
 
@@ -92,15 +92,7 @@ numbers_from m (suc n) = item (number m) (numbers_from (m + 1) n)
 
 -- the bounds of a `for`: both are evaluated, and then their kinds are tested
 abbrev pub Bounds : Expression → Expression → Variables → Evaluation (ℕ × ℕ) → Type 0
-Bounds a b env = Bind (Pair (Eval env a) (Eval env b)) (λ v. Is (numbers_in v.0 v.1))
-
--- the list of a `for`
-abbrev pub ListOf : Expression → Variables → Evaluation (Vals Formula) → Type 0
-ListOf a env = Bind (Eval env a) (λ v. Is (list_in v))
-
--- the condition of an `if` or a `while`
-abbrev pub Condition : Expression → Variables → Evaluation Bool → Type 0
-Condition a env = Tests (Eval env a)
+Bounds a b env = Bind (Pair (Eval env a) (Eval env b)) (λ v. Is (both (number_in v.0) (number_in v.1)))
 
 -- one of two, as a condition says
 abbrev pub Choice : Act → Act → Bool → Act
@@ -112,10 +104,10 @@ abbrev mutual
   pub Does : ℕ → tree.Kind → Act
   Does line (tree.assign x a) = With line (λ env. Eval env a) (Assigns x)
   Does line (tree.print es) = With line (λ env. Evals env es) (Prints line)
-  Does line (tree.choose a first second) = With line (Condition a) (Choice (Run first) (Run second))
+  Does line (tree.choose a first second) = With line (λ env. Tests (Eval env a)) (Choice (Run first) (Run second))
   Does line (tree.count_up x a b body) = With line (Bounds a b) (λ n. Turns line x (Run body) (numbers_from n.0 (n.1 + 1 - n.0)))
-  Does line (tree.each x a body) = With line (ListOf a) (Turns line x (Run body))
-  Does line (tree.repeat a body) = Repeats line (Condition a) (Run body)
+  Does line (tree.each x a body) = With line (λ env. Bind (Eval env a) (λ v. Is (list_in v))) (Turns line x (Run body))
+  Does line (tree.repeat a body) = Repeats line (λ env. Tests (Eval env a)) (Run body)
 
   -- each statement is a step
   pub DoesStep : Statement → Act

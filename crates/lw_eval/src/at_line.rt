@@ -5,11 +5,11 @@ ghost use Rattle.lw_ast.specs.ScriptViews.{expression};
 ghost use Rattle.lw_value.specs.Values.{vals, seen_all, AreItemsLive};
 ghost use Rattle.lw_value.specs.Assignments.{variables_seen, AreVariablesLive};
 ghost use Rattle.lw_eval.specs.Evaluations.{Is};
-ghost use Rattle.lw_eval.specs.Operands.{numbers_in, list_in};
+ghost use Rattle.lw_eval.specs.Operands.{number_in, list_in, both};
 ghost use Rattle.lw_eval.specs.Expressions.{Eval};
-ghost use Rattle.lw_eval.specs.Runs.{Condition, Bounds, ListOf};
+ghost use Rattle.lw_eval.specs.Runs.{Bounds};
 ghost use Rattle.lw_eval.specs.Private.Given.{IsLiveIn, shown_in};
-ghost use Rattle.lw_eval.specs.Private.Carried.{GivesAt, IsFaultAt};
+ghost use Rattle.lw_eval.specs.Private.Carried.{Condition, ListOf, GivesAt, IsFaultAt};
 
 use crate::eval::{eval, eval_pair, eval_test};
 use crate::fault::EvalFault;
@@ -98,7 +98,7 @@ pub fn bounds_at(
 
 /// Two numbers, which the statement at this line needs.
 fn numbers(line: usize, from: &Value, to: &Value) -> Result<(u64, u64), RunFault>
-    ensures { (ts : List Formula) → GivesAt line (λ n. n) (Is (numbers_in (shown_in ts from.now) (shown_in ts to.now))) result }
+    ensures { (ts : List Formula) → GivesAt line (λ n. n) (Is (both (number_in (shown_in ts from.now)) (number_in (shown_in ts to.now)))) result }
 {
     match (from, to) {
         (Value::Number(from), Value::Number(to)) => Ok((*from, *to)),

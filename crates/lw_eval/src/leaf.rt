@@ -3,8 +3,8 @@ ghost use Rattle.lw_formula.specs.Formula.{Formula};
 ghost use Rattle.lw_value.specs.Values as val;
 ghost use Rattle.lw_value.specs.Views.{value_of};
 ghost use Rattle.lw_value.specs.Assignments.{value_at, variables_seen, AreVariablesLive};
-ghost use Rattle.lw_eval.specs.Evaluations.{Is};
-ghost use Rattle.lw_eval.specs.Operators.{bound};
+ghost use Rattle.lw_eval.specs.declared.trouble.Trouble.TheVariants.{Unbound};
+ghost use Rattle.lw_eval.specs.Evaluations.{found_or, Is};
 ghost use Rattle.lw_eval.specs.Private.Given.{Gives, IsLiveIn, shown_in};
 
 use crate::fault::EvalFault;
@@ -25,7 +25,7 @@ pub fn text(alloc: Global, text: &Chars) -> Result<Value, AllocError>
 #[tactic(auto, using(lw_value::proofs::VariablesSeen::value_at_live))]
 pub fn variable(name: &Chars, env: &Env) -> Result<Value, EvalFault>
     ensures value { (ts : List Formula) →
-        Gives (shown_in ts) (Is (bound name.now (value_at (variables_seen ts env.now) name.now))) result }
+        Gives (shown_in ts) (Is (found_or (Unbound name.now) (value_at (variables_seen ts env.now) name.now))) result }
     ensures live { (ts : List Formula) → AreVariablesLive ts env.now → IfOk result (IsLiveIn ts) }
 {
     match env.get(name) {

@@ -2,8 +2,8 @@ ghost use Rattle.std.specs.Prelude.{◌≡◌, ◌∷◌, [], IfOk};
 ghost use Rattle.lw_pool.specs.Region.{tree_at, IsLive, Grows};
 ghost use Rattle.lw_ast.specs.declared.function.Function.TheVariants as function;
 ghost use Rattle.lw_value.specs.Values.{vals, seen_all, AreItemsLive};
-ghost use Rattle.lw_eval.specs.Calls.{letters_of, Lists};
-ghost use Rattle.lw_eval.specs.Private.Given.{Gives, IsCall, IsLiveIn, shown_in};
+ghost use Rattle.lw_eval.specs.Calls.{Lists};
+ghost use Rattle.lw_eval.specs.Private.Given.{Gives, IsCall, IsLiveIn, letters_of, shown_in};
 
 use crate::fault::EvalFault;
 use crate::operator::list_of;

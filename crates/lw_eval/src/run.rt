@@ -6,10 +6,10 @@ ghost use Rattle.lw_ast.specs.ScriptViews.{expression, statement, statements, ki
 ghost use Rattle.lw_value.specs.Values.{vals, seen_all, AreItemsLive};
 ghost use Rattle.lw_value.specs.Evidence.{HasEvidence, HaveEvidence};
 ghost use Rattle.lw_value.specs.Assignments.{put, variables_seen, AreVariablesLive};
-ghost use Rattle.lw_eval.specs.Runs.{step_limit, Step, With, Turns, Repeats, Condition, Choice, Bounds, ListOf, Does, DoesStep, Run, numbers_from};
+ghost use Rattle.lw_eval.specs.Runs.{step_limit, Step, With, Turns, Repeats, Choice, Bounds, Does, DoesStep, Run, numbers_from};
 ghost use Rattle.lw_eval.specs.Ran.{Ran};
 ghost use Rattle.lw_eval.specs.Private.Given.{IsLiveIn, shown_in};
-ghost use Rattle.lw_eval.specs.Private.Carried.{Carries, OrCut, HaveItemsEvidence};
+ghost use Rattle.lw_eval.specs.Private.Carried.{Condition, ListOf, Carries, OrCut, HaveItemsEvidence};
 
 use crate::at_line::{bounds_at, list_at, test_at};
 use crate::print::print;

@@ -1,5 +1,5 @@
 -- Values of scripts. What stands at a formula is left open: an id of a pool in programs, the formula itself for readers.
-use Rattle.std.specs.Prelude.{ℕ, ◌+◌, Bool, List, [], ◌∷◌, ⊤}
+use Rattle.std.specs.Prelude.{ℕ, zero, suc, ◌+◌, Bool, List, [], ◌∷◌, Option, None, Some, ⊤}
 use Rattle.lw_formula.specs.declared.sign.Sign.{Sign}
 use Rattle.lw_formula.specs.declared.logic.Logic.{Logic}
 use Rattle.lw_formula.specs.FiniteModel.{FiniteModel}
@@ -34,6 +34,18 @@ mutual
 abbrev pub vals : {A : Type 0} → List (Val A) → Vals A
 vals [] = empty
 vals (v ∷ vs) = item v (vals vs)
+
+-- the n-th item, from 1, if there is one
+abbrev pub item_at : {A : Type 0} → Vals A → ℕ → Option (Val A)
+item_at empty n = None
+item_at (item v vs) zero = None
+item_at (item v vs) (suc zero) = Some v
+item_at (item v vs) (suc (suc n)) = item_at vs (suc n)
+
+-- the items with one more behind them
+abbrev pub with_last : {A : Type 0} → Vals A → Val A → Vals A
+with_last empty v = item v empty
+with_last (item w ws) v = item w (with_last ws v)
 
 -- 1, and for a list 1 more than the weights of its items
 abbrev mutual

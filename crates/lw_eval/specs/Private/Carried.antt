@@ -1,8 +1,8 @@
 -- What the answers of the functions that carry out a part of a run say of it, and what is left of it in a loop.
-use Rattle.std.specs.Prelude.{◌≡◌, ◌+◌, ◌<◌, ◌≤◌, ℕ, zero, suc, List, [], ◌++◌, Option, Result, Ok, Err, ⊤, OnOk}
+use Rattle.std.specs.Prelude.{◌≡◌, ◌+◌, ◌<◌, ◌≤◌, ℕ, Bool, zero, suc, List, [], ◌++◌, Option, Result, Ok, Err, ⊤, OnOk}
 use Rattle.lw_formula.specs.Formula.{Formula}
 use Rattle.lw_io.specs.Output.{Adds}
-use Rattle.lw_ast.specs.Trees.{Statements, over, then}
+use Rattle.lw_ast.specs.Trees.{Expression, Statements, over, then}
 use Rattle.lw_value.specs.Values.{Vals}
 use Rattle.lw_value.specs.Evidence.{Shows, EachOfCertificates}
 use Rattle.lw_eval.specs.declared.fault.EvalFault.{EvalFault}
@@ -10,8 +10,10 @@ use Rattle.lw_eval.specs.declared.fault.EvalFault.TheVariants.{Troubled, Memory}
 use Rattle.lw_eval.specs.declared.run_fault.RunFault.{RunFault}
 use Rattle.lw_eval.specs.declared.run_fault.RunFault.TheVariants as fault
 use Rattle.lw_eval.specs.declared.trouble.Trouble.TheVariants.{StepLimit}
-use Rattle.lw_eval.specs.Evaluations.{Evaluation, Got, Fails}
-use Rattle.lw_eval.specs.Expressions.{Variables}
+use Rattle.lw_eval.specs.Evaluations.{Evaluation, Got, Fails, Is, Bind}
+use Rattle.lw_eval.specs.Operands.{list_in}
+use Rattle.lw_eval.specs.Operators.{Tests}
+use Rattle.lw_eval.specs.Expressions.{Variables, Eval}
 use Rattle.lw_eval.specs.Runs.{step_limit, Act, End, Cut}
 use Rattle.lw_eval.specs.Ran.{IsEnd}
 
@@ -38,6 +40,14 @@ pub record Leads (whole rest : Act) (before : Variables) (k : ℕ) (here : Varia
   pub adds : Adds written now done
   pub leads : (after : Variables) (k2 : ℕ) (out : List ℕ) (end : End) →
       rest here steps after k2 out end → whole before k after k2 (done ++ out) end
+
+-- the condition of an `if` or a `while`
+abbrev pub Condition : Expression → Variables → Evaluation Bool → Type 0
+Condition a env = Tests (Eval env a)
+
+-- the list of a `for`
+abbrev pub ListOf : Expression → Variables → Evaluation (Vals Formula) → Type 0
+ListOf a env = Bind (Eval env a) (λ v. Is (list_in v))
 
 -- an evaluation may come to what was answered, as it is seen; its trouble comes at the line
 abbrev pub GivesAt : {X A : Type 0} → ℕ → (X → A) → (Evaluation A → Type 0) → Result X RunFault → Type 0

@@ -1,5 +1,5 @@
 -- What an answer of the program says of an evaluation, and values of the program as they are seen.
-use Rattle.std.specs.Prelude.{◌≡◌, ◌<◌, ⊤, ℕ, List, Result, Ok, Err}
+use Rattle.std.specs.Prelude.{◌≡◌, ◌<◌, ⊤, ℕ, List, map, Result, Ok, Err}
 use Rattle.lw_formula.specs.declared.logic.Logic.{Logic}
 use Rattle.lw_formula.specs.Formula.{Formula, letter, subformula_count}
 use Rattle.lw_pool.specs.declared.id.FormId.{FormId}
@@ -9,7 +9,7 @@ use Rattle.lw_trace.specs.LetterlessTruth.{IsLetterless}
 use Rattle.lw_trace.specs.TraceFaults.{IsFirstVariable}
 use Rattle.lw_ast.specs.declared.function.Function.{Function}
 use Rattle.lw_value.specs.declared.value.Value.{Value}
-use Rattle.lw_value.specs.Values.{Evidence, shown_by, EachShown, certificate, Val, Vals, seen, seen_all, AreLive, AreItemsLive}
+use Rattle.lw_value.specs.Values.{Evidence, shown_by, EachShown, certificate, Val, Vals, formula, seen, seen_all, AreLive, AreItemsLive}
 use Rattle.lw_value.specs.Evidence.{HasNoCertificate}
 use Rattle.lw_value.specs.Views.{value_of, values_of}
 use Rattle.lw_eval.specs.declared.trouble.Trouble.{Trouble}
@@ -67,6 +67,10 @@ IsCall f before now arguments result = Gives (shown_in now) (Calls f (all_shown_
 -- the pool has the evidence, and with it a certificate of the formula is one that may be given
 abbrev pub IsShown : Logic → List Formula → Formula → Evidence FormId → Type 0
 IsShown l ts a e = EachShown (IsLive ts) e × Certifies l a (Got (certificate l a (shown_by (tree_at ts) e)))
+
+-- variables of these names, as formulas
+abbrev pub letters_of : List (List ℕ) → List (Val Formula)
+letters_of names = map (λ p. formula (letter p)) names
 
 -- the formula is no single variable
 abbrev pub IsCompound : Formula → Type 0

@@ -2,7 +2,7 @@ use Rattle.std.proofs.Common.{◌∙◌}
 use Rattle.lw_pool.proofs.RegionGrowth.{Grows-trans}
 use Rattle.lw_value.specs.Values.{vals, seen_all, formula}
 use Rattle.lw_value.proofs.GrowingPools.{items_seen_grow, items_live_grow}
-use Rattle.lw_eval.specs.Calls.{letters_of}
+use Rattle.lw_eval.specs.Private.Given.{letters_of}
 use Rattle.std.proofs.Common.{drop, ◌+◌}
 use Rattle.lw_eval.proofs.EvaluationsRepeated.{pushed_live}
 use Rattle.lw_eval.proofs.ItemsSeen.{next_letter, left_letters, all_letters}

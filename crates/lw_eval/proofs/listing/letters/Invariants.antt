@@ -1,7 +1,7 @@
 use Rattle.std.proofs.Common.{◌≡◌, drop}
 use Rattle.lw_pool.specs.Region.{Grows}
 use Rattle.lw_value.specs.Values.{vals, seen_all, AreItemsLive}
-use Rattle.lw_eval.specs.Calls.{letters_of}
+use Rattle.lw_eval.specs.Private.Given.{letters_of}
 use Rattle.lw_eval.specs.Private.Remaining.{followed_by}
 use Rattle.lw_eval.proofs.listing.letters.Given as goal
 

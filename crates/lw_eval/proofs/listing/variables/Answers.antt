@@ -1,6 +1,6 @@
 use Rattle.std.proofs.Common.{◌∙◌, ap}
 use Rattle.lw_value.specs.Values.{vals}
-use Rattle.lw_eval.specs.Calls.{letters_of}
+use Rattle.lw_eval.specs.Private.Given.{letters_of}
 use Rattle.lw_eval.proofs.CallsAnswered.{listed}
 use Rattle.lw_eval.proofs.listing.variables.Goals as goal
 

@@ -10,9 +10,9 @@ use Rattle.lw_value.specs.Assignments.{put, variables_seen, AreVariablesLive}
 use Rattle.lw_value.specs.Views.{value_of}
 use Rattle.lw_value.proofs.VariablesSeen.{put_seen, put_live, put_evidence}
 use Rattle.lw_eval.specs.Evaluations.{Got}
-use Rattle.lw_eval.specs.Runs.{Step, Then, With, Turns, Repeats, Condition, Choice, Bounds, ListOf, Does, DoesStep, Run, numbers_from}
+use Rattle.lw_eval.specs.Runs.{Step, Then, With, Turns, Repeats, Choice, Bounds, Does, DoesStep, Run, numbers_from}
 use Rattle.lw_eval.specs.Private.Given.{shown_in}
-use Rattle.lw_eval.specs.Private.Carried.{Carries, OrCut, statements_from}
+use Rattle.lw_eval.specs.Private.Carried.{Condition, ListOf, Carries, OrCut, statements_from}
 use Rattle.lw_eval.proofs.EvidenceKept.{run_keeps, statement_keeps, turn_keeps, list_items_evident}
 use Rattle.lw_eval.proofs.RunsCarried.{cut_not_done, carries_kind, carries_statement, carries_memory, carries_fault, carries_value, carries_does, carries_step, carries_turn, carries_limit, carries_nothing, leads_last, leads_over, leads_stop, leads_next, leads_final, leads_statements, leads_turns, while_ends, while_stops, while_turn}
 use Rattle.lw_eval.proofs.StatementsSeen.{assign_seen, print_seen, choose_seen, count_up_seen, each_seen, repeat_seen, statement_seen}

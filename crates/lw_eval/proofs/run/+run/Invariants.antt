@@ -4,9 +4,9 @@ use Rattle.lw_ast.specs.ScriptViews.{expression, statement, statements, kind}
 use Rattle.lw_value.specs.Values.{vals, seen_all}
 use Rattle.lw_value.specs.Evidence.{HaveEvidence}
 use Rattle.lw_value.specs.Assignments.{variables_seen, AreVariablesLive}
-use Rattle.lw_eval.specs.Runs.{step_limit, Turns, Repeats, Condition, Run, numbers_from}
+use Rattle.lw_eval.specs.Runs.{step_limit, Turns, Repeats, Run, numbers_from}
 use Rattle.lw_eval.specs.Private.Sizes.{kind_size, statement_size, statements_size}
-use Rattle.lw_eval.specs.Private.Carried.{Leads, statements_from}
+use Rattle.lw_eval.specs.Private.Carried.{Condition, Leads, statements_from}
 use Rattle.lw_eval.proofs.run.+run.Given as goal
 
 abbrev pub decreases-run_block : goal.decreases-run_block
