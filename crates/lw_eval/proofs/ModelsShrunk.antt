@@ -1,5 +1,5 @@
 -- What `smallest` gives, as its row has it.
-use Rattle.std.proofs.Common.{◌≡◌, ℕ, List, sym}
+use Rattle.std.proofs.Common.{◌≡◌, ℕ, List}
 use Rattle.lw_formula.specs.Formula.{Formula}
 use Rattle.lw_formula.specs.FiniteModel.{FiniteModel}
 use Rattle.lw_formula.specs.declared.logic.Logic.{Logic}

@@ -1,14 +1,11 @@
 -- A certificate with the quotient of its model still refutes its formula.
-use Rattle.std.proofs.Common.{◌≡◌, ◌∙◌, ℕ, ◌<◌, List, length, All, sym, subst, arith}
+use Rattle.std.proofs.Common.{◌≡◌}
 use Rattle.lw_formula.specs.declared.logic.Logic.{Logic}
 use Rattle.lw_formula.specs.Formula.{Formula}
-use Rattle.lw_formula.specs.FiniteModel.{FiniteModel}
-use Rattle.lw_formula.specs.Validity.{Refutes}
-use Rattle.lw_bisim.specs.Quotient.{Quotient, IsQuotient, place_of}
 use Rattle.lw_bisim.proofs.QuotientLaws.{refutation_kept}
-use Rattle.lw_value.specs.Values.{Evidence, proved, refuted, Val, formula, truth, number, text, items, logic, certificate, naught}
+use Rattle.lw_value.specs.Values.{Evidence, refuted, Val, formula, truth, number, text, items, logic, certificate, naught}
 use Rattle.lw_value.specs.Evidence.{HasEvidence}
-use Rattle.lw_eval.specs.Evaluations.{Evaluation, Got, Fails, Given}
+use Rattle.lw_eval.specs.Evaluations.{Got, Fails, Given}
 use Rattle.lw_eval.specs.Operands.{certificate_in}
 use Rattle.lw_eval.specs.Calls.{Shrinks}
 

@@ -7,12 +7,11 @@ use Rattle.lw_closure.specs.declared.fault.TheConstants.{SUBFORMULA_LIMIT}
 use Rattle.lw_trace.specs.LetterlessTruth.{TruthByHeight, IsLetterless, trace_of}
 use Rattle.lw_trace.specs.LetterlessForm.{letterless_of}
 use Rattle.lw_value.specs.declared.value.Value.{Value}
-use Rattle.lw_value.specs.Values.{Val, Vals, vals, seen_all, AreItemsLive, formula, truth, number, item}
-use Rattle.lw_eval.specs.declared.trouble.Trouble.{Trouble}
+use Rattle.lw_value.specs.Values.{Val, vals, seen_all, AreItemsLive, formula, truth, number, item}
 use Rattle.lw_eval.specs.declared.trouble.Trouble.TheVariants.{TextLimit, TooLarge, NoInterpolants, NotModalised, TooManyBoxes, NotIntuitionistic, NotLetterless, Unbound, Kind, Range, StepLimit}
 use Rattle.lw_eval.specs.declared.fault.EvalFault.{EvalFault}
 use Rattle.lw_eval.specs.declared.fault.EvalFault.TheVariants.{Troubled, Memory}
-use Rattle.lw_eval.specs.Evaluations.{Evaluation, Got, Fails, Is}
+use Rattle.lw_eval.specs.Evaluations.{Evaluation, Got, Is}
 use Rattle.lw_eval.specs.Operators.{list_of}
 use Rattle.lw_eval.specs.Calls.{Decided, Traced, trace_values}
 use Rattle.lw_eval.specs.Private.Given.{Faults, Gives, IsUntraced, shown_in}
