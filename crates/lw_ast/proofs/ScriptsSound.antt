@@ -77,6 +77,7 @@ arity-some function.Append = omega arith
 arity-some function.Smallest = omega arith
 arity-some function.Trace = omega arith
 arity-some function.Letterless = omega arith
+arity-some function.Shared = omega arith
 
 -- one statement more
 gathers : (from mid : List ScriptLexeme) (ss : Statements) (s : Statement) (ts : List ScriptLexeme) → Gathered from ss mid → States mid s ts → Gathered from (behind ss s) ts

@@ -2,7 +2,7 @@
 use Rattle.std.specs.Prelude.{ℕ, List, Option, Some, None, if◌then◌else◌, codes}
 use Rattle.std.specs.Str.{bytes_eq}
 use Rattle.lw_ast.specs.declared.function.Function.{Function}
-use Rattle.lw_ast.specs.declared.function.Function.TheVariants.{Provable, Certificate, Interpolate, Fixpoint, Nnf, Simplify, Goedel, Boxdot, Substitute, Vars, Depth, Count, Length, Item, Append, Smallest, Trace, Letterless}
+use Rattle.lw_ast.specs.declared.function.Function.TheVariants.{Provable, Certificate, Interpolate, Fixpoint, Nnf, Simplify, Goedel, Boxdot, Substitute, Vars, Depth, Count, Length, Item, Append, Smallest, Trace, Letterless, Shared}
 
 -- how many arguments the function takes
 abbrev pub arity : Function → ℕ
@@ -24,6 +24,7 @@ arity Append = 2
 arity Smallest = 1
 arity Trace = 1
 arity Letterless = 1
+arity Shared = 1
 
 -- the function that the word stands for, if it is the word of one
 unfoldable pub function_of : List ℕ → Option Function
@@ -45,4 +46,5 @@ function_of word =
     if bytes_eq word (codes "append") then Some Append else
     if bytes_eq word (codes "smallest") then Some Smallest else
     if bytes_eq word (codes "trace") then Some Trace else
-    if bytes_eq word (codes "letterless") then Some Letterless else None
+    if bytes_eq word (codes "letterless") then Some Letterless else
+    if bytes_eq word (codes "shared") then Some Shared else None

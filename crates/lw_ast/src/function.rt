@@ -19,4 +19,5 @@ pub enum Function {
     Smallest,
     Trace,
     Letterless,
+    Shared,
 }

@@ -209,6 +209,8 @@ pub fn function_of(word: &[u8]) -> Option<Function>
         Some(Function::Trace)
     } else if word == b"letterless".as_slice() {
         Some(Function::Letterless)
+    } else if word == b"shared".as_slice() {
+        Some(Function::Shared)
     } else {
         None
     }
@@ -317,6 +319,7 @@ pub fn arity(function: Function) -> usize
         | Function::Length
         | Function::Smallest
         | Function::Trace
-        | Function::Letterless => 1,
+        | Function::Letterless
+        | Function::Shared => 1,
     }
 }
