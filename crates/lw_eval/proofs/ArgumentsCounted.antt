@@ -2,7 +2,7 @@
 use Rattle.std.proofs.Common.{refl, ◌<◌, ◌⊎◌, List, [], ◌∷◌, length, arith}
 use Rattle.lw_formula.specs.Formula.{Formula}
 use Rattle.lw_ast.specs.declared.function.Function.{Function}
-use Rattle.lw_ast.specs.declared.function.Function.TheVariants.{Provable, Certificate, Interpolate, Fixpoint, Nnf, Simplify, Goedel, Boxdot, Substitute, Vars, Depth, Count, Length, Item, Append, Smallest, Trace, Letterless}
+use Rattle.lw_ast.specs.declared.function.Function.TheVariants.{Provable, Certificate, Interpolate, Fixpoint, Nnf, Simplify, Goedel, Boxdot, Substitute, Vars, Depth, Count, Length, Item, Append, Smallest, Trace, Letterless, Shared}
 use Rattle.lw_value.specs.declared.value.Value.{Value}
 use Rattle.lw_value.specs.Values.{Val, Vals, empty, item}
 use Rattle.lw_eval.specs.declared.trouble.Trouble.TheVariants.{Kind}
@@ -29,6 +29,7 @@ none Append = refl
 none Smallest = refl
 none Trace = refl
 none Letterless = refl
+none Shared = refl
 
 four : (f : Function) (u v w x : Val Formula) (vs : Vals Formula) → Calls f (item u (item v (item w (item x vs)))) (Fails Kind)
 four Provable u v w x vs = refl
@@ -49,6 +50,7 @@ four Append u v w x vs = refl
 four Smallest u v w x vs = refl
 four Trace u v w x vs = refl
 four Letterless u v w x vs = refl
+four Shared u v w x vs = refl
 
 pub other_count : (f : Function) (ts : List Formula) (vs : List Value) → (length vs < 1) ⊎ (3 < length vs) → Calls f (all_shown_in ts vs) (Fails Kind)
 other_count f ts [] h = none f

@@ -9,10 +9,10 @@ use Rattle.lw_ast.specs.declared.operator.Link.TheVariants as link
 use Rattle.lw_ast.specs.declared.operator.Relation.{Relation}
 use Rattle.lw_ast.specs.declared.operator.Relation.TheVariants.{Equal, Unequal, Less, AtMost}
 use Rattle.lw_ast.specs.declared.function.Function.{Function}
-use Rattle.lw_ast.specs.declared.function.Function.TheVariants.{Provable, Certificate, Interpolate, Fixpoint, Nnf, Simplify, Goedel, Boxdot, Substitute, Vars, Depth, Count, Length, Item, Append, Smallest, Trace, Letterless}
+use Rattle.lw_ast.specs.declared.function.Function.TheVariants.{Provable, Certificate, Interpolate, Fixpoint, Nnf, Simplify, Goedel, Boxdot, Substitute, Vars, Depth, Count, Length, Item, Append, Smallest, Trace, Letterless, Shared}
 use Rattle.lw_ast.specs.Trees as tree
 use Rattle.lw_ast.specs.Trees.{Expression, Expressions, Operands}
-use Rattle.lw_value.specs.Values.{Val, Vals, vals, formula, truth, number, text, items, logic, certificate, naught, empty, item, weight, item_at, with_last}
+use Rattle.lw_value.specs.Values.{Evidence, Val, Vals, vals, formula, truth, number, text, items, logic, certificate, naught, empty, item, weight, item_at, with_last}
 use Rattle.lw_value.specs.Evidence.{HasEvidence, HaveEvidence}
 use Rattle.lw_value.specs.Assignments.{value_at, put}
 use Rattle.lw_value.proofs.VariablesSeen.{value_at_evidence, put_evidence}
@@ -23,7 +23,7 @@ use Rattle.lw_eval.specs.Operands.{formula_in, variable_in, number_in, list_in, 
 use Rattle.lw_eval.specs.Operators.{in_range, calculated, plain, Compares, Tests, Truth, Both, Either, list_of}
 use Rattle.lw_trace.specs.LetterlessTruth.{trace_of}
 use Rattle.lw_eval.proofs.ShrunkEvidence.{smallest_evident}
-use Rattle.lw_eval.specs.Calls.{Decided, decided, Traced, traced, trace_values, Certifies, by_proof, by_model, Interpolates, between, none, Supported, supported, Fixes, fixed, Translates, translated, Lists, lists, Calls}
+use Rattle.lw_eval.specs.Calls.{Decided, decided, Traced, traced, trace_values, Certifies, by_proof, by_model, Interpolates, between, none, Supported, supported, Fixes, fixed, Translates, translated, Shares, Lists, lists, Calls}
 use Rattle.lw_eval.specs.Expressions.{Variables, Eval, Chain, Evals}
 use Rattle.lw_eval.specs.Runs.{Act, End, Nothing, Then, Step, With, Assigns, Prints, Turns, Repeats, numbers_from, Choice, Does, DoesStep, Run}
 use Rattle.lw_eval.specs.Private.Carried.{Condition, ListOf, HaveItemsEvidence}
@@ -162,6 +162,10 @@ fixed_evident p a _ (fixed _) = tt
 translated_evident : (a : Formula) (v : Val Formula) → Translates a (Got v) → HasEvidence v
 translated_evident a _ (translated _) = tt
 
+shares_evident : (l : Logic) (a : Formula) (e : Evidence Formula) (v : Val Formula) → Shares l a e (Got v) → HasEvidence v
+shares_evident l a _ _ (Shares.proof _ _) = (tt, (tt, tt))
+shares_evident l a _ _ Shares.model = tt
+
 lists_evident : (a : Formula) (v : Val Formula) → Lists a (Got v) → HasEvidence v
 lists_evident a v (lists names _ is) = list_evident _ v (letters_evident names) is
 
@@ -185,6 +189,7 @@ call_evident Append vs v have is = two_evident list_in any_in _ vs v (λ x y hx 
 call_evident Smallest vs v have is = one_evident certificate_in _ vs v (λ x hx h. smallest_evident x v hx h) have is
 call_evident Trace vs v have is = given_evident (one formula_in vs) _ v (λ a h. traced_evident a _ v (λ u k. list_evident (vals (trace_values a)) u (trace_evident a) k) h) is
 call_evident Letterless vs v have is = given_evident (one formula_in vs) _ v (λ a h. traced_evident a _ v (λ u k. is_evident u _ k tt) h) is
+call_evident Shared vs v have is = given_evident (one certificate_in vs) _ v (λ c h. shares_evident c.0 c.1 c.2 v h) is
 
 -- the value of an expression has evidence where the variables have it
 mutual

@@ -13,6 +13,7 @@ pub mod OneValue
 pub mod OutputAdded
 pub mod RunsCarried
 pub mod RunsFollowed
+pub mod SetsCounted
 pub mod ShrunkEvidence
 pub mod StatementsSeen
 pub mod TracesGiven

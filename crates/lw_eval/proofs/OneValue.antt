@@ -1,11 +1,13 @@
 -- An expression that calls no function that may choose comes to at most one value or trouble.
-use Rattle.std.proofs.Common.{◌≡◌, ◌≢◌, ℕ, zero, suc, Bool, true, false, List, refl, sym, ap, ◌∙◌, subst, arith}
+use Rattle.std.proofs.Common.{◌≡◌, ◌≢◌, ℕ, zero, suc, ◌-◌, ◌^◌, min, Bool, true, false, List, [], ◌∷◌, refl, sym, ap, ◌∙◌, subst, arith}
 use Rattle.std.specs.Prelude.{nat_le, nat_lt}
 use Rattle.std.proofs.Math.Nat.{le_antisymm}
 use Rattle.lw_formula.specs.Formula.{Formula, letter, falsum, verum, depth, subformula_count}
 use Rattle.lw_formula.specs.Joint.{join}
 use Rattle.lw_formula.specs.Variables.{replace}
 use Rattle.lw_formula.specs.Validity.{Valid}
+use Rattle.lw_formula.specs.declared.logic.Logic.{Logic}
+use Rattle.lw_proof.specs.Tree.{lines}
 use Rattle.lw_normal.specs.NegationNormalForm.{nnf}
 use Rattle.lw_normal.specs.Simplification.{simplify}
 use Rattle.lw_trans.specs.declared.connective.Connective.{Connective}
@@ -13,25 +15,26 @@ use Rattle.lw_trans.specs.declared.connective.Connective.TheVariants as connecti
 use Rattle.lw_trans.specs.Connectives.{naming_place}
 use Rattle.lw_trans.specs.Translations.{boxdot}
 use Rattle.lw_ast.specs.declared.function.Function.{Function}
-use Rattle.lw_ast.specs.declared.function.Function.TheVariants.{Provable, Certificate, Interpolate, Fixpoint, Nnf, Simplify, Goedel, Boxdot, Substitute, Vars, Depth, Count, Length, Item, Append, Smallest, Trace, Letterless}
+use Rattle.lw_ast.specs.declared.function.Function.TheVariants.{Provable, Certificate, Interpolate, Fixpoint, Nnf, Simplify, Goedel, Boxdot, Substitute, Vars, Depth, Count, Length, Item, Append, Smallest, Trace, Letterless, Shared}
 use Rattle.lw_ast.specs.declared.operator.Link.TheVariants as link
 use Rattle.lw_ast.specs.declared.operator.Relation.{Relation}
 use Rattle.lw_ast.specs.declared.operator.Relation.TheVariants.{Equal, Unequal, Less, AtMost}
 use Rattle.lw_ast.specs.Trees as tree
 use Rattle.lw_ast.specs.Trees.{Expression, Expressions, Operands}
-use Rattle.lw_value.specs.Values.{Val, Vals, formula, truth, number, text, logic, naught, empty, item, vals, item_at, with_last}
+use Rattle.lw_value.specs.Values.{Evidence, proved, refuted, Val, Vals, items, formula, truth, number, text, logic, naught, empty, item, vals, item_at, with_last}
 use Rattle.lw_value.specs.Assignments.{value_at}
 use Rattle.lw_value.specs.ValueTexts.{count_of}
 use Rattle.lw_eval.specs.declared.trouble.Trouble.{Trouble}
 use Rattle.lw_eval.specs.declared.trouble.Trouble.TheVariants.{NotIntuitionistic, NotLetterless, Range, Unbound}
 use Rattle.lw_eval.specs.Evaluations.{Evaluation, Got, Fails, found_or, Is, Given, Bind, Pair, Tells}
-use Rattle.lw_eval.specs.Operands.{formula_in, variable_in, truth_in, number_in, list_in, logic_in, any_in, both, one, two, three}
+use Rattle.lw_eval.specs.Operands.{formula_in, variable_in, truth_in, number_in, list_in, logic_in, certificate_in, any_in, both, one, two, three}
 use Rattle.lw_eval.specs.Operators.{prefixed_by, Prefixes, Joins, calculated, Calculates, Compared, Compares, Tests, Truth, Both, Either, list_of}
 use Rattle.lw_trace.specs.LetterlessForm.{letterless_of}
-use Rattle.lw_eval.specs.Calls.{Decided, Traced, trace_values, Fixes, Translates, Lists, Calls}
+use Rattle.lw_eval.specs.Calls.{Decided, Traced, trace_values, Fixes, Translates, Shares, Lists, Calls}
 use Rattle.lw_eval.specs.Expressions.{Variables, Eval, Chain, Evals}
 use Rattle.lw_eval.specs.Private.Given.{letters_of}
 use Rattle.lw_eval.specs.Plain.{GivesOne, IsPlain, ArePlain, AreOperandsPlain}
+use Rattle.lw_eval.proofs.SetsCounted.{one_set_count}
 use Rattle.lw_eval.proofs.NamesInOrder.{one_list_of_variables, one_first_variable}
 
 -- no two values, no two troubles, and no value beside a trouble
@@ -140,6 +143,11 @@ one_translates a r s (Translates.modal what h) (Translates.modal other k) =
     let same = le_antisymm (h.first other k.stands) (k.first what h.stands) in
     ap (λ c. Fails (NotIntuitionistic c)) (sym (named_at_its_place what) ∙ ap named_at same ∙ named_at_its_place other)
 
+one_shares : (l : Logic) (a : Formula) (e : Evidence Formula) → IsOne (Shares l a e)
+one_shares l a (proved P) _ _ (Shares.proof m counts) (Shares.proof n recounts) =
+    ap (λ k. Got (items (vals (number (min (lines P) (2 ^ 64 - 1)) ∷ number k ∷ [])))) (one_set_count l a P m n counts recounts)
+one_shares l a (refuted m w) _ _ Shares.model Shares.model = refl
+
 one_lists : (a : Formula) → IsOne (Lists a)
 one_lists a r s (Lists.lists names h l) (Lists.lists others k m) =
     l ∙ ap (λ ps. list_of (vals (letters_of ps))) (one_list_of_variables a names others h k) ∙ sym m
@@ -169,6 +177,7 @@ one_call Append vs gives = one_given (two list_in any_in vs) _ (λ x. one_is (li
 one_call Smallest vs gives = absurd gives
 one_call Trace vs gives = one_given (one formula_in vs) _ (λ a. one_traced a _ (one_decided a _ (one_is (list_of (vals (trace_values a))))))
 one_call Letterless vs gives = one_given (one formula_in vs) _ (λ a. one_traced a _ (one_decided a _ (one_is (Got (formula (letterless_of a))))))
+one_call Shared vs gives = one_given (one certificate_in vs) _ (λ c. one_shares c.0 c.1 c.2)
 
 mutual
   pub one_value : (env : Variables) (a : Expression) → IsPlain a → IsOne (Eval env a)

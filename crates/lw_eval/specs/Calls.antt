@@ -1,5 +1,5 @@
 -- What functions give for their arguments: one row each.
-use Rattle.std.specs.Prelude.{◌≡◌, ℕ, ◌<◌, ◌≤◌, List, ◌∷◌, length, map, true, false}
+use Rattle.std.specs.Prelude.{◌≡◌, ℕ, ◌-◌, ◌^◌, ◌<◌, ◌≤◌, min, List, [], ◌∷◌, length, map, true, false}
 use Rattle.lw_formula.specs.declared.logic.Logic.{Logic}
 use Rattle.lw_formula.specs.Formula.{Formula, letter, impl, depth, nodes, subformula_count}
 use Rattle.lw_formula.specs.FiniteModel.{FiniteModel}
@@ -7,7 +7,7 @@ use Rattle.lw_formula.specs.Signed.{Signed}
 use Rattle.lw_formula.specs.Variables.{AreVariables, replace}
 use Rattle.lw_formula.specs.Validity.{Valid, Refutes}
 use Rattle.lw_model.specs.Bounds.{IsWithinBounds}
-use Rattle.lw_proof.specs.Tree.{Tree}
+use Rattle.lw_proof.specs.Tree.{Tree, lines}
 use Rattle.lw_proof.specs.Lean.{Lean}
 use Rattle.lw_closure.specs.declared.fault.TheConstants.{SUBFORMULA_LIMIT}
 use Rattle.lw_interp.specs.Interpolant.{Interpolant, has_interpolants}
@@ -21,12 +21,13 @@ use Rattle.lw_trans.specs.declared.connective.Connective.{Connective}
 use Rattle.lw_trans.specs.Connectives.{IsIntuitionistic, IsFirst}
 use Rattle.lw_trans.specs.Translations.{goedel, boxdot}
 use Rattle.lw_bisim.specs.Quotient.{Quotient, IsQuotient, place_of}
+use Rattle.lw_share.specs.SetCounts.{CountsSets}
 use Rattle.lw_trace.specs.LetterlessTruth.{IsLetterless, trace_of}
 use Rattle.lw_trace.specs.LetterlessForm.{letterless_of}
 use Rattle.lw_trace.specs.TraceFaults.{IsFirstVariable}
 use Rattle.lw_ast.specs.declared.function.Function.{Function}
-use Rattle.lw_ast.specs.declared.function.Function.TheVariants.{Provable, Certificate, Interpolate, Fixpoint, Nnf, Simplify, Goedel, Boxdot, Substitute, Vars, Depth, Count, Length, Item, Append, Smallest, Trace, Letterless}
-use Rattle.lw_value.specs.Values.{Evidence, proved, refuted, Val, Vals, formula, truth, number, certificate, naught, vals, item_at, with_last}
+use Rattle.lw_ast.specs.declared.function.Function.TheVariants.{Provable, Certificate, Interpolate, Fixpoint, Nnf, Simplify, Goedel, Boxdot, Substitute, Vars, Depth, Count, Length, Item, Append, Smallest, Trace, Letterless, Shared}
+use Rattle.lw_value.specs.Values.{Evidence, proved, refuted, Val, Vals, formula, truth, number, items, certificate, naught, vals, item_at, with_last}
 use Rattle.lw_value.specs.ValueTexts.{count_of}
 use Rattle.lw_eval.specs.declared.trouble.Trouble.TheVariants.{Range, TooLarge, NoInterpolants, NotModalised, TooManyBoxes, NotIntuitionistic, NotLetterless}
 use Rattle.lw_eval.specs.Evaluations.{Evaluation, Got, Fails, found_or, Is, Given, Tells}
@@ -80,6 +81,12 @@ pub data Shrinks (l : Logic) (a : Formula) : Evidence Formula → Evaluation (Va
   quotient : {m : FiniteModel} {w : ℕ} (q : Quotient) → IsQuotient m q →
       Shrinks l a (refuted m w) (Got (certificate l a (refuted q.model (place_of q.places w))))
 
+-- how many steps its proof has, up to 2^64 - 1, and how many sets they close, each counted once; none where it has a model
+pub data Shares (l : Logic) (a : Formula) : Evidence Formula → Evaluation (Val Formula) → Type 0 where
+  proof : {P : Tree Signed} (sets : ℕ) → CountsSets l a P sets →
+      Shares l a (proved P) (Got (items (vals (number (min (lines P) (2 ^ 64 - 1)) ∷ number sets ∷ []))))
+  model : {m : FiniteModel} {w : ℕ} → Shares l a (refuted m w) (Got naught)
+
 -- the variables of the formula as formulas, each once, in byte order
 pub data Lists (a : Formula) : Evaluation (Val Formula) → Type 0 where
   lists : {r : Evaluation (Val Formula)} (names : List (List ℕ)) → AreVariables a names →
@@ -89,7 +96,8 @@ pub data Lists (a : Formula) : Evaluation (Val Formula) → Type 0 where
 abbrev pub Calls : Function → Vals Formula → Evaluation (Val Formula) → Type 0
 Calls Provable vs = Given (two logic_in formula_in vs) (λ x. Decided x.1 (Tells (Valid x.0 x.1)))
 Calls Certificate vs = Given (two logic_in formula_in vs) (λ x. Decided x.1 (Certifies x.0 x.1))
-Calls Interpolate vs = Given (three logic_in formula_in formula_in vs) (λ x. Supported x.0 (Decided (impl x.1.0 x.1.1) (Interpolates x.0 x.1.0 x.1.1)))
+Calls Interpolate vs = Given (three logic_in formula_in formula_in vs)
+    (λ x. Supported x.0 (Decided (impl x.1.0 x.1.1) (Interpolates x.0 x.1.0 x.1.1)))
 Calls Fixpoint vs = Given (two variable_in formula_in vs) (λ x. Fixes x.0 x.1)
 Calls Nnf vs = Given (one formula_in vs) (λ a. Is (Got (formula (nnf a))))
 Calls Simplify vs = Given (one formula_in vs) (λ a. Is (Got (formula (simplify a))))
@@ -105,3 +113,4 @@ Calls Append vs = Given (two list_in any_in vs) (λ x. Is (list_of (with_last x.
 Calls Smallest vs = Given (one certificate_in vs) (λ c. Shrinks c.0 c.1 c.2)
 Calls Trace vs = Given (one formula_in vs) (λ a. Traced a (Decided a (Is (list_of (vals (trace_values a))))))
 Calls Letterless vs = Given (one formula_in vs) (λ a. Traced a (Decided a (Is (Got (formula (letterless_of a))))))
+Calls Shared vs = Given (one certificate_in vs) (λ c. Shares c.0 c.1 c.2)

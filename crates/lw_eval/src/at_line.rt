@@ -3,6 +3,7 @@ ghost use Rattle.lw_formula.specs.Formula.{Formula};
 ghost use Rattle.lw_pool.specs.Region.{Grows};
 ghost use Rattle.lw_ast.specs.ScriptViews.{expression};
 ghost use Rattle.lw_value.specs.Values.{vals, seen_all, AreItemsLive};
+ghost use Rattle.lw_value.specs.Evidence.{HaveEvidence};
 ghost use Rattle.lw_value.specs.Assignments.{variables_seen, AreVariablesLive};
 ghost use Rattle.lw_eval.specs.Evaluations.{Is};
 ghost use Rattle.lw_eval.specs.Operands.{number_in, list_in, both};
@@ -39,7 +40,8 @@ pub fn value_at(
     pool: &mut Pool,
     env: &Env,
 ) -> Result<Value, RunFault>
-    requires { AreVariablesLive pool.old env.now }
+    requires live { AreVariablesLive pool.old env.now }
+    requires evidence { HaveEvidence (variables_seen pool.old env.now) }
     ensures value { GivesAt line (shown_in pool.new) (Eval (variables_seen pool.old env.now) (expression expr.now)) result }
     ensures live { IfOk result (IsLiveIn pool.new) }
     ensures same { variables_seen pool.new env.now ≡ variables_seen pool.old env.now }
@@ -61,7 +63,8 @@ pub fn test_at(
     pool: &mut Pool,
     env: &Env,
 ) -> Result<bool, RunFault>
-    requires { AreVariablesLive pool.old env.now }
+    requires live { AreVariablesLive pool.old env.now }
+    requires evidence { HaveEvidence (variables_seen pool.old env.now) }
     ensures value { GivesAt line (λ b. b) (Condition (expression expr.now) (variables_seen pool.old env.now)) result }
     ensures same { variables_seen pool.new env.now ≡ variables_seen pool.old env.now }
     ensures kept { AreVariablesLive pool.new env.now }
@@ -83,7 +86,8 @@ pub fn bounds_at(
     pool: &mut Pool,
     env: &Env,
 ) -> Result<(u64, u64), RunFault>
-    requires { AreVariablesLive pool.old env.now }
+    requires live { AreVariablesLive pool.old env.now }
+    requires evidence { HaveEvidence (variables_seen pool.old env.now) }
     ensures value { GivesAt line (λ n. n)
         (Bounds (expression from.now) (expression to.now) (variables_seen pool.old env.now)) result }
     ensures same { variables_seen pool.new env.now ≡ variables_seen pool.old env.now }
@@ -118,7 +122,8 @@ pub fn list_at(
     pool: &mut Pool,
     env: &Env,
 ) -> Result<Items, RunFault>
-    requires { AreVariablesLive pool.old env.now }
+    requires live { AreVariablesLive pool.old env.now }
+    requires evidence { HaveEvidence (variables_seen pool.old env.now) }
     ensures value { GivesAt line (λ vs. seen_all pool.new (vals vs))
         (ListOf (expression expr.now) (variables_seen pool.old env.now)) result }
     ensures live { IfOk result (λ vs. AreItemsLive pool.new (vals vs)) }

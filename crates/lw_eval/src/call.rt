@@ -1,6 +1,8 @@
 ghost use Rattle.std.specs.Prelude.{◌≡◌, ◌∷◌, [], IfOk};
 ghost use Rattle.lw_pool.specs.Region.{Grows};
-ghost use Rattle.lw_eval.specs.Private.Given.{IsCall, IsLiveIn, AreLiveIn};
+ghost use Rattle.lw_value.specs.Evidence.{HasEvidence};
+ghost use Rattle.lw_eval.specs.Private.Given.{IsCall, IsLiveIn, AreLiveIn, all_shown_in, shown_in};
+ghost use Rattle.lw_eval.specs.Private.Carried.{HaveItemsEvidence};
 
 use crate::deciding::{certificate, provable};
 use crate::fault::EvalFault;
@@ -10,6 +12,7 @@ use crate::interpolating::interpolate;
 use crate::listing::{append, item, length, vars};
 use crate::measure::{count, depth};
 use crate::replacing::substitute;
+use crate::sharing::sizes;
 use crate::shrinking::smallest;
 use crate::tracing::{letterless, trace};
 use crate::trouble::Trouble;
@@ -27,6 +30,7 @@ pub fn call(
     pool: &mut Pool,
 ) -> Result<Value, EvalFault>
     requires live { AreLiveIn pool.old arguments.now }
+    requires evidence { HaveItemsEvidence (all_shown_in pool.old arguments.now) }
     ensures value { IsCall function pool.old pool.new arguments.now result }
     ensures live { IfOk result (IsLiveIn pool.new) }
     ensures grows { Grows pool.old pool.new }
@@ -46,6 +50,7 @@ fn call_one(
     pool: &mut Pool,
 ) -> Result<Value, EvalFault>
     requires live { IsLiveIn pool.old argument.now }
+    requires evidence { HasEvidence (shown_in pool.old argument.now) }
     ensures value { IsCall function pool.old pool.new (argument.now ∷ []) result }
     ensures live { IfOk result (IsLiveIn pool.new) }
     ensures grows { Grows pool.old pool.new }
@@ -62,6 +67,7 @@ fn call_one(
         Function::Smallest => smallest(alloc, pool, argument),
         Function::Trace => trace(alloc, pool, argument),
         Function::Letterless => letterless(alloc, pool, argument),
+        Function::Shared => sizes(alloc, pool, argument),
         Function::Provable
         | Function::Certificate
         | Function::Interpolate
@@ -103,7 +109,8 @@ fn call_two(
         | Function::Length
         | Function::Smallest
         | Function::Trace
-        | Function::Letterless => Err(EvalFault::Troubled(Trouble::Kind)),
+        | Function::Letterless
+        | Function::Shared => Err(EvalFault::Troubled(Trouble::Kind)),
     }
 }
 
@@ -140,6 +147,7 @@ fn call_three(
         | Function::Append
         | Function::Smallest
         | Function::Trace
-        | Function::Letterless => Err(EvalFault::Troubled(Trouble::Kind)),
+        | Function::Letterless
+        | Function::Shared => Err(EvalFault::Troubled(Trouble::Kind)),
     }
 }

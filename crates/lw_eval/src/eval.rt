@@ -2,6 +2,7 @@ ghost use Rattle.std.specs.Prelude.{◌≡◌, IfOk};
 ghost use Rattle.lw_pool.specs.Region.{Grows};
 ghost use Rattle.lw_ast.specs.ScriptViews.{expression, expressions, operands};
 ghost use Rattle.lw_value.specs.Values.{vals, seen_all, AreItemsLive};
+ghost use Rattle.lw_value.specs.Evidence.{HaveEvidence};
 ghost use Rattle.lw_value.specs.Assignments.{variables_seen, AreVariablesLive};
 ghost use Rattle.lw_eval.specs.Evaluations.{Pair};
 ghost use Rattle.lw_eval.specs.Operators.{Tests};
@@ -21,9 +22,10 @@ use std::alloc::Global;
 
 /// What the expression comes to, where the variables are these. It fails with the script's trouble, or for want of memory.
 #[cycle(eval)]
-#[tactic(auto, using(lw_value::proofs::GrowingPools::variables_live_grow, lw_value::proofs::GrowingPools::variables_seen_grow))]
+#[tactic(auto, using(lw_value::proofs::GrowingPools::variables_live_grow, lw_value::proofs::GrowingPools::variables_seen_grow, lw_value::proofs::GrowingPools::variables_evidence_grows))]
 pub fn eval(alloc: Global, expr: &Expr, pool: &mut Pool, env: &Env) -> Result<Value, EvalFault>
     requires live { AreVariablesLive pool.old env.now }
+    requires evidence { HaveEvidence (variables_seen pool.old env.now) }
     ensures value { Gives (shown_in pool.new) (Eval (variables_seen pool.old env.now) (expression expr.now)) result }
     ensures live { IfOk result (IsLiveIn pool.new) }
     ensures grows { Grows pool.old pool.new }
@@ -71,7 +73,7 @@ pub fn eval(alloc: Global, expr: &Expr, pool: &mut Pool, env: &Env) -> Result<Va
 
 /// What both expressions come to, the left one first.
 #[cycle(eval)]
-#[tactic(auto, using(lw_value::proofs::GrowingPools::variables_live_grow, lw_value::proofs::GrowingPools::variables_seen_grow))]
+#[tactic(auto, using(lw_value::proofs::GrowingPools::variables_live_grow, lw_value::proofs::GrowingPools::variables_seen_grow, lw_value::proofs::GrowingPools::variables_evidence_grows))]
 pub fn eval_pair(
     alloc: Global,
     left: &Expr,
@@ -80,6 +82,7 @@ pub fn eval_pair(
     env: &Env,
 ) -> Result<(Value, Value), EvalFault>
     requires live { AreVariablesLive pool.old env.now }
+    requires evidence { HaveEvidence (variables_seen pool.old env.now) }
     ensures value { Gives (λ v. (shown_in pool.new v.0, shown_in pool.new v.1))
         (Pair (Eval (variables_seen pool.old env.now) (expression left.now))
         (Eval (variables_seen pool.old env.now) (expression right.now))) result }
@@ -95,6 +98,7 @@ pub fn eval_pair(
 #[cycle(eval)]
 pub fn eval_test(alloc: Global, expr: &Expr, pool: &mut Pool, env: &Env) -> Result<bool, EvalFault>
     requires live { AreVariablesLive pool.old env.now }
+    requires evidence { HaveEvidence (variables_seen pool.old env.now) }
     ensures value { Gives (λ b. b) (Tests (Eval (variables_seen pool.old env.now) (expression expr.now))) result }
     ensures grows { Grows pool.old pool.new }
 {
@@ -103,7 +107,7 @@ pub fn eval_test(alloc: Global, expr: &Expr, pool: &mut Pool, env: &Env) -> Resu
 
 /// What the expressions come to, from left to right.
 #[cycle(eval)]
-#[tactic(auto, using(lw_value::proofs::GrowingPools::variables_live_grow, lw_value::proofs::GrowingPools::variables_seen_grow))]
+#[tactic(auto, using(lw_value::proofs::GrowingPools::variables_live_grow, lw_value::proofs::GrowingPools::variables_seen_grow, lw_value::proofs::GrowingPools::variables_evidence_grows))]
 pub fn eval_all(
     alloc: Global,
     exprs: &Exprs,
@@ -111,6 +115,7 @@ pub fn eval_all(
     env: &Env,
 ) -> Result<Items, EvalFault>
     requires live { AreVariablesLive pool.old env.now }
+    requires evidence { HaveEvidence (variables_seen pool.old env.now) }
     ensures value { Gives (λ vs. seen_all pool.new (vals vs)) (Evals (variables_seen pool.old env.now) (expressions exprs.now)) result }
     ensures live { IfOk result (λ vs. AreItemsLive pool.new (vals vs)) }
     ensures grows { Grows pool.old pool.new }
@@ -124,7 +129,7 @@ pub fn eval_all(
 
 /// The sum or product of the first operand and the further ones, each in turn.
 #[cycle(eval)]
-#[tactic(auto, using(lw_value::proofs::GrowingPools::variables_live_grow, lw_value::proofs::GrowingPools::variables_seen_grow))]
+#[tactic(auto, using(lw_value::proofs::GrowingPools::variables_live_grow, lw_value::proofs::GrowingPools::variables_seen_grow, lw_value::proofs::GrowingPools::variables_evidence_grows))]
 fn eval_series(
     alloc: Global,
     first: &Expr,
@@ -133,6 +138,7 @@ fn eval_series(
     env: &Env,
 ) -> Result<Value, EvalFault>
     requires live { AreVariablesLive pool.old env.now }
+    requires evidence { HaveEvidence (variables_seen pool.old env.now) }
     ensures value { Gives (shown_in pool.new)
         (Series (variables_seen pool.old env.now) (expression first.now) (operands terms.now)) result }
     ensures live { IfOk result (IsLiveIn pool.new) }

@@ -19,6 +19,7 @@ mod print;
 mod replacing;
 mod run;
 mod run_fault;
+mod sharing;
 mod shrinking;
 mod step;
 mod tracing;

@@ -2,6 +2,7 @@ ghost use Rattle.std.specs.Prelude.{◌≡◌, ℕ, List, Option, IsErrOf};
 ghost use Rattle.lw_pool.specs.Region.{Grows};
 ghost use Rattle.lw_ast.specs.Trees as tree;
 ghost use Rattle.lw_ast.specs.ScriptViews.{expression};
+ghost use Rattle.lw_value.specs.Evidence.{HaveEvidence};
 ghost use Rattle.lw_value.specs.Assignments.{variables_seen, AreVariablesLive};
 ghost use Rattle.lw_eval.specs.Runs.{Does};
 ghost use Rattle.lw_eval.specs.Private.Carried.{Carries, OrCut, IsStepTaken};
@@ -42,6 +43,7 @@ pub fn assign(
     env: &mut Env,
 ) -> Result<(), RunFault>
     requires live { AreVariablesLive pool.old env.old }
+    requires evidence { HaveEvidence (variables_seen pool.old env.old) }
     ensures run { (k : ℕ) (w : Option (List ℕ)) → Carries (OrCut (Does line (tree.assign name.now (expression expr.now))))
         (variables_seen pool.old env.old) k (variables_seen pool.new env.new) k w w result }
     ensures live { AreVariablesLive pool.new env.new }

@@ -50,8 +50,9 @@ content-feed (Table w rows) = one-more _ _ (one-more _ _ (one-more _ _ (rows-fee
 sheet-feed : (s : Sheet) → EndsInFeed (lines s)
 sheet-feed s = one-more _ _ (one-more _ _ (one-more _ _ (content-feed s.content)))
 
+-- the proof of a certificate, by its ids and by its formulas
 mutual
-  tree-told : (ts : List Formula) (t : Tree SignedId) → map_tree (λ s. (s.0, tree_at ts s.1)) (map_tree pair_of t) ≡ map_tree (signed_at ts) t
+  pub tree-told : (ts : List Formula) (t : Tree SignedId) → map_tree (λ s. (s.0, tree_at ts s.1)) (map_tree pair_of t) ≡ map_tree (signed_at ts) t
   tree-told ts (node r s us) = λ i. node r (s.sign, tree_at ts s.form) (forest-told ts us i)
 
   forest-told : (ts : List Formula) (us : Forest SignedId) → map_forest (λ s. (s.0, tree_at ts s.1)) (map_forest pair_of us) ≡ map_forest (signed_at ts) us
@@ -91,7 +92,7 @@ certificate-text ts c text front None is cut some = let h = some (last-there ts 
 certificate-text ts c text front (Some last) is cut some = one-byte ts c text front last is cut
 
 mutual
-  principals-told : (P : FormId → Type 0) (t : Tree SignedId) → EachPrincipal (λ s. P s.1) (map_tree pair_of t) → EachPrincipal (λ s. P s.form) t
+  pub principals-told : (P : FormId → Type 0) (t : Tree SignedId) → EachPrincipal (λ s. P s.1) (map_tree pair_of t) → EachPrincipal (λ s. P s.form) t
   principals-told P (node r s us) each = (each.0, all-principals-told P us each.1)
 
   all-principals-told : (P : FormId → Type 0) (us : Forest SignedId) → EachOfAll (λ s. P s.1) (map_forest pair_of us) → EachOfAll (λ s. P s.form) us

@@ -1,11 +1,12 @@
 -- Values and variables keep their formulas where the pool keeps its own.
-use Rattle.std.proofs.Common.{◌≡◌, ℕ, List, [], ◌∷◌, refl, ap, arith}
+use Rattle.std.proofs.Common.{◌≡◌, ℕ, List, [], ◌∷◌, refl, sym, ap, subst, arith}
 use Rattle.lw_formula.specs.declared.sign.Sign.{Sign}
 use Rattle.lw_formula.specs.Formula.{Formula}
 use Rattle.lw_pool.specs.declared.id.FormId.{FormId}
 use Rattle.lw_pool.specs.Region.{tree_at, IsLive, Grows}
 use Rattle.lw_proof.specs.Tree.{Tree, Forest, node, none, more, map_tree, map_forest, EachPrincipal, EachOfAll}
 use Rattle.lw_value.specs.Values.{Evidence, proved, refuted, Val, Vals, shown_by, shown_all, seen, seen_all, EachShown, EachOfItems, AreLive, AreItemsLive, formula, truth, number, text, items, logic, certificate, naught, empty, item}
+use Rattle.lw_value.specs.Evidence.{HaveEvidence}
 use Rattle.lw_value.specs.Assignments.{variables_seen, AreVariablesLive}
 
 -- a signed formula, by its id
@@ -93,3 +94,8 @@ variables_seen_grow old new (p ∷ ps) g live = λ i. (p.0, seen_grows old new p
 pub variables_live_grow : (old new : List Formula) (ps : List (List ℕ × Val FormId)) → Grows old new → AreVariablesLive old ps → AreVariablesLive new ps
 variables_live_grow old new [] g live = tt
 variables_live_grow old new (p ∷ ps) g live = (live_grows old new p.1 g live.0, variables_live_grow old new ps g live.1)
+
+-- the certificates in their values show what they did
+pub variables_evidence_grows : (old new : List Formula) (ps : List (List ℕ × Val FormId)) → Grows old new → AreVariablesLive old ps →
+    HaveEvidence (variables_seen old ps) → HaveEvidence (variables_seen new ps)
+variables_evidence_grows old new ps g live has = subst HaveEvidence (sym (variables_seen_grow old new ps g live)) has

@@ -1,4 +1,4 @@
-use Rattle.std.proofs.Common.{◌∙◌, ap, sym, arith, refl}
+use Rattle.std.proofs.Common.{◌∙◌, List, ap, sym, subst, arith, refl}
 use Rattle.lw_eval.specs.Evaluations.Bind.{goes}
 use Rattle.lw_ast.specs.declared.operator.Prefix.TheVariants as sign
 use Rattle.lw_ast.specs.declared.operator.Series.TheVariants as series
@@ -12,14 +12,17 @@ use Rattle.lw_eval.specs.Private.Sizes.{size}
 use Rattle.lw_eval.proofs.EvaluationsInTurn.{bind_faults, bind_gives, evaluated, failed, valued, handed_on, both_faults, either_faults, both_tests, either_tests, both_decided, either_decided, faults_before, test_faults_before, value_before, test_before, called}
 use Rattle.lw_eval.proofs.EvaluationsRepeated.{size_within, operand_size_within, left_faults, all_fault, left_value, left_trouble, operand_faults, calculation_faults, series_fault, next_total, paired, pair_right_faults, pushed_live, pushed_values, all_values, whole_total, total_faults_before, total_before}
 use Rattle.lw_pool.proofs.RegionGrowth.{Grows-trans}
-use Rattle.lw_value.proofs.GrowingPools.{seen_grows, live_grows, items_seen_grow, items_live_grow, variables_seen_grow, variables_live_grow}
-use Rattle.lw_value.specs.Values.{vals, seen_all}
+use Rattle.lw_value.proofs.GrowingPools.{seen_grows, live_grows, items_seen_grow, items_live_grow, variables_seen_grow, variables_live_grow, variables_evidence_grows}
+use Rattle.lw_pool.specs.declared.id.FormId.{FormId}
+use Rattle.lw_value.specs.Values.{Val, vals, seen_all}
 use Rattle.lw_value.specs.Views.{value_of}
 use Rattle.lw_eval.specs.Evaluations.{Pair}
 use Rattle.lw_eval.specs.Operators.{Tests}
 use Rattle.lw_eval.specs.Expressions.{Eval, Evals}
 use Rattle.lw_eval.specs.Private.Given.{shown_in}
 use Rattle.lw_eval.specs.Private.Remaining.{Series}
+use Rattle.lw_eval.specs.Private.Carried.{HaveItemsEvidence}
+use Rattle.lw_eval.proofs.EvidenceKept.{evals_evident}
 use Rattle.lw_eval.proofs.ExpressionsSeen.{built}
 use Rattle.lw_eval.proofs.eval.+eval.Goals as goal
 
@@ -113,7 +116,7 @@ eval-returns-then-not-branch-clause-value t c =
 
 pub eval-eval_test-requires-in-Both-2 : goal.eval-eval_test-requires-in-Both-2
 eval-eval_test-requires-in-Both-2 t c =
-    (omega (arith, c.decreases, ap size (ap expression c.in-Both.is ∙ ap expression (sym (shape.rolls-Both c.in-Both.a c.in-Both.b)) ∙ built (Expr-F.Both c.in-Both.a c.in-Both.b) ∙ sym (λ i. tree.linked link.Both (expression (c.deref-in-Both.ensures i)) (expression (c.deref-in-Both-2.ensures i))))), variables_live_grow c.args.pool.now c.eval_test-in-Both.new.pool c.args.env.now c.eval_test-in-Both.ensures.grows c.requires.live)
+    (omega (arith, c.decreases, ap size (ap expression c.in-Both.is ∙ ap expression (sym (shape.rolls-Both c.in-Both.a c.in-Both.b)) ∙ built (Expr-F.Both c.in-Both.a c.in-Both.b) ∙ sym (λ i. tree.linked link.Both (expression (c.deref-in-Both.ensures i)) (expression (c.deref-in-Both-2.ensures i))))), (variables_live_grow c.args.pool.now c.eval_test-in-Both.new.pool c.args.env.now c.eval_test-in-Both.ensures.grows c.requires.live, variables_evidence_grows c.args.pool.now c.eval_test-in-Both.new.pool c.args.env.now c.eval_test-in-Both.ensures.grows c.requires.live c.requires.evidence))
 
 pub eval-returns-in_err-eval_test-in-Both-2-clause-value : goal.eval-returns-in_err-eval_test-in-Both-2-clause-value
 eval-returns-in_err-eval_test-in-Both-2-clause-value t c =
@@ -141,7 +144,7 @@ eval-returns-then-branch-clause-value t c =
 
 pub eval-eval_test-requires-in-Either-2 : goal.eval-eval_test-requires-in-Either-2
 eval-eval_test-requires-in-Either-2 t c =
-    (omega (arith, c.decreases, ap size (ap expression c.in-Either.is ∙ ap expression (sym (shape.rolls-Either c.in-Either.a c.in-Either.b)) ∙ built (Expr-F.Either c.in-Either.a c.in-Either.b) ∙ sym (λ i. tree.linked link.Either (expression (c.deref-in-Either.ensures i)) (expression (c.deref-in-Either-2.ensures i))))), variables_live_grow c.args.pool.now c.eval_test-in-Either.new.pool c.args.env.now c.eval_test-in-Either.ensures.grows c.requires.live)
+    (omega (arith, c.decreases, ap size (ap expression c.in-Either.is ∙ ap expression (sym (shape.rolls-Either c.in-Either.a c.in-Either.b)) ∙ built (Expr-F.Either c.in-Either.a c.in-Either.b) ∙ sym (λ i. tree.linked link.Either (expression (c.deref-in-Either.ensures i)) (expression (c.deref-in-Either-2.ensures i))))), (variables_live_grow c.args.pool.now c.eval_test-in-Either.new.pool c.args.env.now c.eval_test-in-Either.ensures.grows c.requires.live, variables_evidence_grows c.args.pool.now c.eval_test-in-Either.new.pool c.args.env.now c.eval_test-in-Either.ensures.grows c.requires.live c.requires.evidence))
 
 pub eval-returns-in_err-eval_test-in-Either-2-clause-value : goal.eval-returns-in_err-eval_test-in-Either-2-clause-value
 eval-returns-in_err-eval_test-in-Either-2-clause-value t c =
@@ -160,6 +163,10 @@ eval-returns-in_ok-eval_all-in-List-clause-value t c =
     evaluated _ (variables_seen c.args.pool.now c.args.env.now) _ _ _
     (ap expression c.in-List.is ∙ ap expression (sym (shape.rolls-List c.in-List.items)) ∙ built (Expr-F.List c.in-List.items))
     (bind_gives _ _ _ _ _ c.in_ok-eval_all-in-List.ensures.value (c.list_of.ensures.value _))
+
+pub eval-call-requires-clause-evidence : goal.eval-call-requires-clause-evidence
+eval-call-requires-clause-evidence t c = subst (λ (vs : List (Val FormId)). HaveItemsEvidence (seen_all c.eval_all-in-Call.new.pool (vals vs))) (sym c.as_slice.ensures)
+    (evals_evident (variables_seen c.args.pool.now c.args.env.now) (expressions c.in-Call.arguments) _ c.requires.evidence c.in_ok-arguments-in-Call.ensures.value)
 
 pub eval-returns-in_ok-arguments-in-Call-clause-value : goal.eval-returns-in_ok-arguments-in-Call-clause-value
 eval-returns-in_ok-arguments-in-Call-clause-value t c =
@@ -199,7 +206,7 @@ eval_pair-returns-clause-live t c =
 
 pub eval_all-eval-requires : goal.eval_all-eval-requires
 eval_all-eval-requires t c =
-    (omega (arith, c.decreases, size_within c.loop-i.i (expressions c.args.exprs.now) (expression c.get.result.now) c.get.ensures), c.loop-i.invariant.live)
+    (omega (arith, c.decreases, size_within c.loop-i.i (expressions c.args.exprs.now) (expression c.get.result.now) c.get.ensures), (c.loop-i.invariant.live, variables_evidence_grows c.args.pool.now c.loop-i.pool c.args.env.now c.loop-i.invariant.grows c.requires.live c.requires.evidence))
 
 pub eval_all-returns-in_err-eval-clause-value : goal.eval_all-returns-in_err-eval-clause-value
 eval_all-returns-in_err-eval-clause-value t c =
@@ -239,7 +246,7 @@ eval_series-loop-i-init t c =
 
 pub eval_series-eval-requires-in-loop-i : goal.eval_series-eval-requires-in-loop-i
 eval_series-eval-requires-in-loop-i t c =
-    (omega (arith, c.decreases, operand_size_within c.loop-i.i (operands c.args.terms.now) c.get-sign.result.0 (expression c.get-sign.result.1.now) c.get-sign.ensures), c.loop-i.invariant.live)
+    (omega (arith, c.decreases, operand_size_within c.loop-i.i (operands c.args.terms.now) c.get-sign.result.0 (expression c.get-sign.result.1.now) c.get-sign.ensures), (c.loop-i.invariant.live, variables_evidence_grows c.args.pool.now c.loop-i.pool c.args.env.now c.loop-i.invariant.grows c.requires.live c.requires.evidence))
 
 pub eval_series-returns-in_err-operand-clause-value : goal.eval_series-returns-in_err-operand-clause-value
 eval_series-returns-in_err-operand-clause-value t c =
