@@ -1,4 +1,5 @@
 pub mod Accepted
 pub mod Fragments
+pub mod LiveTables
 pub mod Sheets
 pub mod WrittenValues

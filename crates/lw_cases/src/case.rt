@@ -12,6 +12,7 @@ use crate::quotients::smallest_line;
 use crate::runs::left_line;
 use crate::scripts::{script_cuts_line, script_line, script_tree_line};
 use crate::setting::Setting;
+use crate::tables::table_line;
 use crate::texts::{chars_line, read_line, token_line};
 use crate::top_call::{run_cuts_line, run_line};
 use crate::traces::trace_line;
@@ -122,6 +123,7 @@ fn of_text(alloc: Global, text: &[u8], verb: &str, rest: &str) -> Result<Vec<u8>
         "chars" => Ok(chars_line(alloc, text)?),
         "verdicts" => Ok(verdicts_line(alloc, text)?.into_bytes()),
         "interpolant" => interpolant_line(alloc, text),
+        "table" => Ok(table_line(alloc, text)?.into_bytes()),
         "cuts" => Ok(cut_line(alloc, text)?.into_bytes()),
         _ => Err(Unanswered),
     }

@@ -22,6 +22,7 @@ mod repeats;
 mod runs;
 mod scripts;
 mod setting;
+mod tables;
 mod texts;
 mod top_call;
 mod traces;
