@@ -37,4 +37,5 @@ pub data IsFinding (bytes : List ℕ) : Finding → Type 0 where
   too_long : file_limit < length bytes → IsFinding bytes FileLimit
   no_model : (line : ℕ) → length bytes ≤ file_limit → IsFaultOf bytes (fault.ModelText line) → IsFinding bytes (ModelText line)
   no_proof : (line : ℕ) → length bytes ≤ file_limit → IsFaultOf bytes (fault.ProofText line) → IsFinding bytes (ProofText line)
-  judged : (c : Sheet) (finding : Finding) → length bytes ≤ file_limit → Reads (pieces bytes) c → IsJudged c.logic c.formula c.content finding → IsFinding bytes finding
+  judged : (c : Sheet) (finding : Finding) →
+      length bytes ≤ file_limit → Reads (pieces bytes) c → IsJudged c.logic c.formula c.content finding → IsFinding bytes finding

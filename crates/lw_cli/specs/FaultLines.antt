@@ -22,7 +22,8 @@ syntax_word Number = codes "number"
 
 -- of a text whose first fault is at this line and column
 abbrev pub syntax_line : ℕ → ℕ → SyntaxWhy → List ℕ
-syntax_line line column why = codes "fault: line " ++ (decimal line ++ (codes " column " ++ (decimal column ++ (codes ": " ++ (syntax_word why ++ 10 ∷ [])))))
+syntax_line line column why =
+    codes "fault: line " ++ (decimal line ++ (codes " column " ++ (decimal column ++ (codes ": " ++ (syntax_word why ++ 10 ∷ [])))))
 
 -- the connective as formulas have it
 abbrev pub connective_word : Connective → List ℕ

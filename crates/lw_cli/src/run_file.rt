@@ -73,7 +73,8 @@ fn script_report<K: Sink>(
     ensures report { IfOk result (Reports (ScriptOutcome (statements script.now.body)) (K.written sink.old) (K.written sink.new)) }
     ensures status { IfOk result (λ report. report.status ≤ 1) }
     ensures short { OnErr result
-        (IsShort (ScriptOutcome (statements script.now.body)) (Begins (statements script.now.body)) (K.written sink.old) (K.written sink.new)) }
+        (IsShort (ScriptOutcome (statements script.now.body)) (Begins (statements script.now.body))
+        (K.written sink.old) (K.written sink.new)) }
     ensures cause { IsErrOf result ReportFault.SinkFailed → Rose (K.faults sink.old) (K.faults sink.new) }
     ensures later { K.faults sink.old ≤ K.faults sink.new }
 {

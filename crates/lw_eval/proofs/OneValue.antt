@@ -34,7 +34,7 @@ use Rattle.lw_eval.specs.Calls.{Decided, Traced, trace_values, Fixes, Translates
 use Rattle.lw_eval.specs.Expressions.{Variables, Eval, Chain, Evals}
 use Rattle.lw_eval.specs.Private.Given.{letters_of}
 use Rattle.lw_eval.specs.Plain.{GivesOne, IsPlain, ArePlain, AreOperandsPlain}
-use Rattle.lw_eval.proofs.SetsCounted.{one_set_count}
+use Rattle.lw_share.proofs.CountedSets.{one_count}
 use Rattle.lw_eval.proofs.NamesInOrder.{one_list_of_variables, one_first_variable}
 
 -- no two values, no two troubles, and no value beside a trouble
@@ -145,7 +145,7 @@ one_translates a r s (Translates.modal what h) (Translates.modal other k) =
 
 one_shares : (l : Logic) (a : Formula) (e : Evidence Formula) → IsOne (Shares l a e)
 one_shares l a (proved P) _ _ (Shares.proof m counts) (Shares.proof n recounts) =
-    ap (λ k. Got (items (vals (number (min (lines P) (2 ^ 64 - 1)) ∷ number k ∷ [])))) (one_set_count l a P m n counts recounts)
+    ap (λ k. Got (items (vals (number (min (lines P) (2 ^ 64 - 1)) ∷ number k ∷ [])))) (one_count l a P m n counts recounts)
 one_shares l a (refuted m w) _ _ Shares.model Shares.model = refl
 
 one_lists : (a : Formula) → IsOne (Lists a)

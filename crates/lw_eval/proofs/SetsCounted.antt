@@ -6,13 +6,11 @@ use Rattle.lw_formula.specs.FiniteModel.{FiniteModel}
 use Rattle.lw_pool.specs.declared.id.FormId.{FormId}
 use Rattle.lw_pool.specs.declared.id.SignedId.{SignedId}
 use Rattle.lw_pool.specs.Region.{tree_at, IsLive}
-use Rattle.lw_pool.proofs.EqualLengths.{length-same_members}
 use Rattle.lw_proof.specs.Tree.{Tree, Forest, node, none, more, lines, lines_all, map_tree, map_forest}
 use Rattle.lw_proof.specs.Derivation.{Proves}
 use Rattle.lw_proof.specs.Pooled.{proof_at, IsProofLive}
 use Rattle.lw_cert.specs.declared.certificate.Body.TheVariants.{Proved, Refuted}
 use Rattle.lw_cert.specs.declared.certificate.Certificate.{Certificate}
-use Rattle.lw_share.specs.Laws.{OneSetCount}
 use Rattle.lw_share.specs.SetCounts.{CountsSets}
 use Rattle.lw_value.specs.declared.value.Value.{Value}
 use Rattle.lw_value.specs.Certified.{certified, evidence_of}
@@ -23,14 +21,6 @@ use Rattle.lw_value.proofs.CertificateWritten.{tree-told, principals-told}
 use Rattle.lw_eval.specs.Evaluations.{Got, Given}
 use Rattle.lw_eval.specs.Operands.{certificate_in}
 use Rattle.lw_eval.specs.Calls.{Shares}
-
--- the sets that the steps of a proof close are counted in one way
-pub one_set_count : OneSetCount
-one_set_count l a P m n one other =
-    sym one.2
-    ∙ length-same_members one.0 other.0 one.1.distinct other.1.distinct
-    (λ X h. (other.1.same X).0 ((one.1.same X).1 h)) (λ X h. (one.1.same X).0 ((other.1.same X).1 h))
-    ∙ other.2
 
 -- a proof has as many steps by its ids
 mutual

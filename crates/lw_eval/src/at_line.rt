@@ -102,7 +102,8 @@ pub fn bounds_at(
 
 /// Two numbers, which the statement at this line needs.
 fn numbers(line: usize, from: &Value, to: &Value) -> Result<(u64, u64), RunFault>
-    ensures { (ts : List Formula) → GivesAt line (λ n. n) (Is (both (number_in (shown_in ts from.now)) (number_in (shown_in ts to.now)))) result }
+    ensures { (ts : List Formula) →
+        GivesAt line (λ n. n) (Is (both (number_in (shown_in ts from.now)) (number_in (shown_in ts to.now)))) result }
 {
     match (from, to) {
         (Value::Number(from), Value::Number(to)) => Ok((*from, *to)),

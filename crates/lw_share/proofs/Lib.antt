@@ -13,3 +13,4 @@ mod AscendingNumbers
 mod FormsUnder
 mod KeyedSets
 mod KeyedLines
+pub mod CountedSets
