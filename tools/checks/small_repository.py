@@ -72,6 +72,15 @@ size done = 0
 size (link unused c) =
     size c + unused
 
+-- no clause speaks of this: its parameter on a second line is no constructor
+pub data Bounded (c : Chain)
+    (unused : ℕ) : Type 0 where
+  bounded : Bounded c unused
+
+-- nor of this: its field has the name of a definition
+pub record Sized : Type 0 where
+  pub size : ℕ
+
 abbrev mutual
   pub even : ℕ → Kind
   even n = First n

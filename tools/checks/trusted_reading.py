@@ -1,4 +1,4 @@
-"""Whether README.md has the number of lines to be believed, and docs/DEFINITIONS.md the order of the files."""
+"""Whether README.md and docs/DEFINITIONS.md have the numbers of lines to be believed, and the page the order of the files."""
 
 import os
 import re
@@ -6,7 +6,7 @@ import re
 from checks.report import TOP, text_of
 from checks.running import run
 from trusted.order import crate_of
-from trusted.workbench import reached
+from trusted.workbench import MEANINGS, reached
 
 # some that the contract speaks of, and some that other contracts alone do
 REACHED = ["workbench", "Answers", "RunOutcome", "IsFinding", "IsTrueAt", "Class", "Sees", "first_break", "in_logic", "Store", "Sink", "FileName"]
@@ -44,10 +44,26 @@ def check_page(report, order):
     report.compare("docs/DEFINITIONS.md, the files in order", sorted(places), places)
 
 
+def total_of(report, *words):
+    """The number of lines and of files that the tool prints."""
+    written, status = run("tools/trusted-reading", "--total", *words)
+    report.compare("tools/trusted-reading %s, its status" % " ".join(words), 0, status)
+    return written.strip()[len("In all: ") :]
+
+
+def check_numbers(report):
+    """README.md says how much there is to be believed, of all commands and of each; docs/DEFINITIONS.md of each."""
+    readme, page = text_of("README.md"), text_of("docs/DEFINITIONS.md")
+    total = total_of(report)
+    report.check("README.md, %s" % total, total in readme)
+    for command in sorted(MEANINGS):
+        said = "`%s` %s" % (command, total_of(report, "--command", command).split(" lines")[0])
+        report.check("README.md, %s" % said, said in readme)
+        report.check("docs/DEFINITIONS.md, %s" % said, said in page)
+
+
 def check_all(report):
     reach, order = reached(TOP)
     check_names(report, reach)
     check_page(report, order)
-    written, status = run("tools/trusted-reading", "--total")
-    total = written.strip()[len("In all: ") :]
-    report.check("README.md, %s" % total, status == 0 and total in text_of("README.md"))
+    check_numbers(report)

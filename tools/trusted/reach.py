@@ -46,11 +46,12 @@ class Spec:
     def __init__(self, path, text):
         reader = Reader(path, text).read()
         self.path, self.imports, self.definitions = path, reader.imports, reader.definitions
-        self.index, self.constructors = {}, set()
-        for item in self.definitions:
-            for name in list(item.fields) + list(item.constructors) + item.names:
-                self.index[name] = item
-            self.constructors |= item.constructors
+        self.index = {}
+        # a definition or a constructor goes before a field of its name: a field stands behind a point
+        for kind in ["fields", "constructors", "names"]:
+            for item in self.definitions:
+                self.index.update((name, item) for name in getattr(item, kind))
+        self.constructors = {name for item in self.definitions for name in item.constructors}
 
 
 class Kit:

@@ -143,14 +143,20 @@ def add_rows(item, rows, kind, indent, bound):
     if kind is None:
         item.pieces.append(Piece("\n".join(line for _, line in rows), bound))
         return
-    head = rows[0][1].strip()
+    head, rest = head_of(rows)
     own = frozenset(bound) | bound_in(head)
     item.pieces.append(Piece(head.split("where")[0].replace(kind.strip(), "", 1).replace("pub", "", 1), own | set(item.names)))
-    for part in parts_of(rows[1:], indent + 2):
+    for part in parts_of(rest, indent + 2):
         names, _, _ = re.sub(r"^\s*pub ", "", part).partition(":")
         words = set(re.findall(NAME, names))
         (item.constructors if kind == "data " else item.fields).update(words)
         item.pieces.append(Piece(part.partition(":")[2], own))
+
+
+def head_of(rows):
+    """The head of data or of a record, up to its `where`, as one line, and the rows behind it."""
+    ends = next((at for at, (_, line) in enumerate(rows) if re.search(r"\bwhere$", line.rstrip())), 0)
+    return " ".join(line.strip() for _, line in rows[: ends + 1]), rows[ends + 1 :]
 
 
 def parts_of(rows, indent):
