@@ -92,7 +92,8 @@ class Peer:
 
     def version(self):
         """The first number with a point in what the peer says of itself."""
-        run = subprocess.run([self.command] + self.version_words, stdout=subprocess.PIPE, stderr=subprocess.STDOUT, stdin=subprocess.DEVNULL)
+        words = [self.command] + self.version_words
+        run = subprocess.run(words, stdin=subprocess.DEVNULL, stdout=subprocess.PIPE, stderr=subprocess.STDOUT)
         found = re.search(r"[0-9]+\.[0-9]+", run.stdout.decode("utf-8", "replace"))
         return found.group() if found else "unknown"
 

@@ -70,8 +70,8 @@ RUNNING = [Row("running", make.__name__, sizes, script(make), ratio) for make, s
     (texts.variables, (10, 1000), 1.5),
     (texts.reads, (False, True), 1.5),
     *((texts.interpolants(logic), (15, 30, 60), 10) for logic in ("k", "kt", "s4", "gl")),
-    *((texts.of_formula(function, loop, name), sizes, ratio) for function in ("nnf", "simplify", "boxdot") for loop, name, sizes, ratio in (
-        ("A <-> p", "equivalences", (50, 100), 2.5), ("box A", "boxes", (100000, 200000), 2.3))),
+    *((texts.of_formula(function, "A <-> p", "equivalences"), (50, 100), 2.5) for function in ("nnf", "simplify", "boxdot")),
+    *((texts.of_formula(function, "box A", "boxes"), (100000, 200000), 2.3) for function in ("nnf", "simplify", "boxdot")),
     (texts.of_formula("goedel", "A -> q", "implications"), (100000, 200000), 2.3),
     (texts.fixed_points, (5, 6, 7, 8, 9, 10), 2.8),
     (texts.traces, (60, 120), 4.5),
