@@ -2,11 +2,14 @@
 
 import math
 
+from showing.labels import LINE
 from showing.picture import STYLE
 from showing.strokes import point, text_line
 
-WIDTH, HEIGHT, LEFT, TOP, RIGHT, BOTTOM = 640, 420, 60, 24, 110, 50
-DASHES = ("", "7 3", "2 3", "9 3 2 3")
+NAME_WIDTH = 70
+WIDTH, HEIGHT, LEFT, TOP, RIGHT, BOTTOM = 660, 420, 80, 24, 110, 50
+# of the curves, one a solver: the program, that with certificates, and the peers
+DASHES = ("none", "7 3", "2 3", "9 3 2 3")
 
 
 def times_of(rows, solver):
@@ -38,6 +41,21 @@ def axis_lines(scale):
     yield text_line((LEFT + WIDTH - RIGHT) / 2, HEIGHT - 12, "middle", "formulas solved, each within the time at the left")
 
 
+def curve_lines(scale, times):
+    """A curve for each solver that solves some, with its name at the end, below one that would stand in its place."""
+    names = []
+    for (solver, list_of), dashes in zip(times.items(), DASHES):
+        if not list_of:
+            continue
+        places = [scale.place(count, seconds) for count, seconds in enumerate(list_of, 1)]
+        yield '<path stroke-dasharray="%s" d="M %s"/>' % (dashes, " L ".join(point(place) for place in places))
+        x, y = places[-1][0] + 6, places[-1][1] + 4
+        while any(abs(x - u) < NAME_WIDTH and abs(y - v) < LINE for u, v in names):
+            y += LINE
+        names.append((x, y))
+        yield text_line(x, y, "name", solver)
+
+
 def lines(rows, solvers):
     """The picture's lines; there is at least one solved formula."""
     times = {solver: times_of(rows, solver) for solver in solvers}
@@ -47,9 +65,5 @@ def lines(rows, solvers):
     yield "<style>%s</style>" % STYLE
     yield '<rect width="100%" height="100%" fill="white"/>'
     yield from axis_lines(scale)
-    for (solver, list_of), dashes in zip(times.items(), DASHES):
-        if list_of:
-            places = [scale.place(count, seconds) for count, seconds in enumerate(list_of, 1)]
-            yield '<path stroke-dasharray="%s" d="M %s"/>' % (dashes or "none", " L ".join(point(place) for place in places))
-            yield text_line(places[-1][0] + 6, places[-1][1] + 4, "name", solver)
+    yield from curve_lines(scale, times)
     yield "</svg>"
