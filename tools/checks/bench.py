@@ -3,6 +3,7 @@ without peers."""
 
 import os
 import subprocess
+import tempfile
 
 from checks.report import TOP
 
@@ -37,6 +38,23 @@ def check_s4(report):
         report.check("bench/run in S4, %s" % name, int(cells[1].split()[0]) >= 1, cells[1])
 
 
+def check_wrong_peer(report):
+    """A peer that calls each formula valid contradicts the first family of K: the run names it, and ends with status 1."""
+    if not os.path.exists(PROGRAM):
+        return
+    with tempfile.TemporaryDirectory() as folder:
+        path = os.path.join(folder, "SPASS")
+        with open(path, "w", encoding="utf-8") as file:
+            file.write("#!/bin/sh\necho Proof found\n")
+        os.chmod(path, 0o755)
+        found = dict(os.environ, PATH=folder + os.pathsep + os.environ["PATH"])
+        words = [RUN, "--logic", "k", "--most", "1", "--peers", "spass"]
+        done = subprocess.run(words, stdout=subprocess.PIPE, stderr=subprocess.STDOUT, stdin=subprocess.DEVNULL, env=found)
+    wanted = (1, "bench/run: wrong: spass says of k_branch_n for n = 1: valid\n")
+    report.compare("bench/run with a wrong peer", wanted, (done.returncode, done.stdout.decode()))
+
+
 def check_all(report):
     check_bad_words(report)
+    check_wrong_peer(report)
     check_s4(report)
