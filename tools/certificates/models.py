@@ -1,24 +1,46 @@
 """Finite models, from the fourth section of docs/CERTIFICATES.md."""
 
 
+def is_reflexive(sets):
+    return all(w in row for w, row in enumerate(sets))
+
+
+def is_irreflexive(sets):
+    return all(w not in row for w, row in enumerate(sets))
+
+
+def is_serial(sets):
+    return all(sets)
+
+
+def is_symmetric(sets):
+    return all(w in sets[v] for w, row in enumerate(sets) for v in row)
+
+
+def is_antisymmetric(sets):
+    return all(v == w or w not in sets[v] for w, row in enumerate(sets) for v in row)
+
+
+def is_transitive(sets):
+    return all(sets[v] <= row for row in sets for v in row)
+
+
+CLASSES = {
+    "k": [],
+    "kt": [is_reflexive],
+    "kd": [is_serial],
+    "k4": [is_transitive],
+    "s4": [is_reflexive, is_transitive],
+    "s5": [is_reflexive, is_symmetric, is_transitive],
+    "gl": [is_transitive, is_irreflexive],
+    "grz": [is_reflexive, is_transitive, is_antisymmetric],
+}
+
+
 def in_class(logic, sees):
+    """Whether the relation is one of the logic's. Raises KeyError where the logic has no row."""
     sets = [set(row) for row in sees]
-    worlds = range(len(sets))
-    reflexive = all(w in sets[w] for w in worlds)
-    transitive = all(sets[v] <= sets[w] for w in worlds for v in sets[w])
-    if logic == "k":
-        return True
-    if logic == "kt":
-        return reflexive
-    if logic == "gl":
-        return transitive and all(w not in sets[w] for w in worlds)
-    if not (reflexive and transitive):
-        return False
-    if logic == "s5":
-        return all(w in sets[v] for w in worlds for v in sets[w])
-    if logic == "grz":
-        return all(v == w or w not in sets[v] for w in worlds for v in sets[w])
-    return True
+    return all(test(sets) for test in CLASSES[logic])
 
 
 def true_worlds(sees, facts, a, known):

@@ -76,17 +76,30 @@ def check_reasons(report):
     report.check("reasons of steps", True)
 
 
+# the conditions by which the relation of a logic follows from its reduced arrows
+CLOSED_UNDER = {
+    "k": (),
+    "kt": ("reflexive",),
+    "k4": ("transitive",),
+    "kd": (),
+    "s4": ("reflexive", "transitive"),
+    "s5": ("reflexive", "symmetric", "transitive"),
+    "gl": ("transitive",),
+    "grz": ("reflexive", "transitive"),
+}
+
+
 def closure(logic, count, arrows):
     """The least relation with these arrows that is reflexive, symmetric or transitive as the logic's are."""
     seen = [set() for _ in range(count)]
     for v, w in arrows:
         seen[v].add(w)
-        if logic == "s5":
+        if "symmetric" in CLOSED_UNDER[logic]:
             seen[w].add(v)
-    if logic in ("kt", "s4", "s5", "grz"):
+    if "reflexive" in CLOSED_UNDER[logic]:
         for w in range(count):
             seen[w].add(w)
-    if logic in ("s4", "s5", "gl", "grz"):
+    if "transitive" in CLOSED_UNDER[logic]:
         for through in range(count):
             for w in range(count):
                 if through in seen[w]:
@@ -220,7 +233,30 @@ def check_smallest(report):
         report.check("smallest model of %s" % name, same and quotient.smallest(smaller)[0][0] == smaller[0] and smaller[2] == places[model[2]])
 
 
+# judged by hand from the rules: each proof's text, and the line that the checker writes of it
+SMALL_PROOFS = [
+    ("k4", "box p -> box box p", "one F box p -> box box p\nstep F box box p\nstep F box p\nclose T p\n", "accepted"),
+    ("k4", "box p -> p", "one F box p -> p\nrefl T box p\nclose T p\n", "rejected: step 2"),
+    ("kd", "box p -> dia p", "one F box p -> dia p\nserial T box p\nclose T p\n", "accepted"),
+    ("k", "box p -> dia p", "one F box p -> dia p\nserial T box p\nclose T p\n", "rejected: step 2"),
+    ("kd", "box p -> dia p", "one F box p -> dia p\nserial T p\nclose T p\n", "rejected: step 2"),
+]
+
+
+def check_small_proofs(report):
+    """Proofs of K4 and KD are judged by their own rows, and each is shown in both lengths."""
+    with tempfile.TemporaryDirectory() as folder:
+        for logic, goal, steps, wanted in SMALL_PROOFS:
+            name = os.path.join(folder, "proof.txt")
+            with open(name, "w", encoding="utf-8") as file:
+                file.write("certificate 1\nlogic %s\nformula %s\nproof\n%send\n" % (logic, goal, steps))
+            for length in ("--brief", "--full"):
+                written = run("tools/show", name, length)[0]
+                report.compare("show %s of %s in %s" % (length, goal, logic), wanted, written[: len(wanted)])
+
+
 def check_all(report):
+    check_small_proofs(report)
     check_first_lines(report)
     check_reasons(report)
     check_models(report)

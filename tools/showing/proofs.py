@@ -1,6 +1,6 @@
-"""A proof as an indented tree, with the set at each step."""
+"""A proof as an indented tree, with the whole set at each step."""
 
-from certificates.calculus import component, flip, one, step_parts, two, walk
+from certificates.calculus import component, flip, one, step_parts, two, under_nus, walk
 from showing import reasons
 from showing.words import LOGIC_NAMES, counted, listed, signed
 
@@ -34,22 +34,56 @@ def branching(sides):
     return ["leaves two sets, with %s and with %s" % (listed(sides[0]), listed(sides[1]))]
 
 
-def explained(logic, rule, s, place):
-    """What the step does, in lines, and what each of its premises adds."""
-    if rule == "close":
-        return ["%s and %s can't both hold" % (signed(s), signed(flip(s)))], []
-    if rule == "absurd":
-        return ["%s can't hold" % signed(s)], []
-    if rule == "one":
-        return ["leaves the set with %s" % listed(one(s))], [one(s)]
-    if rule == "two":
-        return branching(two(s)), list(two(s))
-    if rule == "refl":
-        return ["each world sees itself, so leaves the set with %s" % listed([component(s)])], [[component(s)]]
-    if rule == "cut":
-        return branching(([s], [flip(s)])), [[s], [flip(s)]]
+def explain_close(logic, s, place):
+    return ["%s and %s can't both hold" % (signed(s), signed(flip(s)))], []
+
+
+def explain_absurd(logic, s, place):
+    return ["%s can't hold" % signed(s)], []
+
+
+def explain_one(logic, s, place):
+    return ["leaves the set with %s" % listed(one(s))], [one(s)]
+
+
+def explain_two(logic, s, place):
+    return branching(two(s)), list(two(s))
+
+
+def explain_refl(logic, s, place):
+    return ["each world sees itself, so leaves the set with %s" % listed([component(s)])], [[component(s)]]
+
+
+def explain_cut(logic, s, place):
+    return branching(([s], [flip(s)])), [[s], [flip(s)]]
+
+
+def explain_step(logic, s, place):
     parts = step_parts(logic, s, place.formulas)
     return list(step_lines(logic, parts)), [[t for name, part in parts for t in part]]
+
+
+def explain_serial(logic, s, place):
+    under = under_nus(place.formulas)
+    told = ["each world sees a world, so goes to one; in %s its set has" % LOGIC_NAMES[logic]]
+    return told + ["  the components of all ν: %s" % listed(under)], [under]
+
+
+EXPLAINED = {
+    "close": explain_close,
+    "absurd": explain_absurd,
+    "one": explain_one,
+    "two": explain_two,
+    "refl": explain_refl,
+    "step": explain_step,
+    "serial": explain_serial,
+    "cut": explain_cut,
+}
+
+
+def explained(logic, rule, s, place):
+    """What the step does, in lines, and what each of its premises adds. Raises KeyError where the rule has no row."""
+    return EXPLAINED[rule](logic, s, place)
 
 
 def set_lines(place, principal):

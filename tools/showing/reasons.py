@@ -1,6 +1,6 @@
 """Why a step breaks its rule, and why a model doesn't refute its formula."""
 
-from certificates.calculus import component, flip, is_nu, is_pi, one, two
+from certificates.calculus import RULES, flip, is_nu, is_pi, one, two
 from certificates.formulas import subformulas
 from certificates.models import true_worlds
 from showing.words import LOGIC_NAMES, signed
@@ -18,13 +18,14 @@ SHAPES = {
     "two": (lambda s: two(s) is not None, "in the table of `two`"),
     "refl": (is_nu, "a ν, `T box A` or `F dia A`"),
     "step": (is_pi, "a π, `F box A` or `T dia A`"),
+    "serial": (is_nu, "a ν, `T box A` or `F dia A`"),
     "cut": (lambda s: s[0] == "T" and is_modal(s), "signed T, and begins with `box` or `dia`"),
 }
 
 
 def of_step(logic, goal, have, rule, s):
     """Why the step breaks its rule: the logic, then the principal's shape, then what the set lacks, then the goal."""
-    if (rule == "refl" and logic in ("k", "gl")) or (rule == "cut" and logic != "s5"):
+    if logic not in RULES[rule][0]:
         return "the rule %s isn't one of %s" % (rule, LOGIC_NAMES[logic])
     fits, shape = SHAPES[rule]
     if not fits(s):
@@ -43,6 +44,10 @@ def pairs(sees):
 
 def not_reflexive(sees):
     return next(("world %d doesn't see itself" % w for w, row in enumerate(sees) if w not in row), None)
+
+
+def not_serial(sees):
+    return next(("world %d sees no world" % w for w, row in enumerate(sees) if not row), None)
 
 
 def not_irreflexive(sees):
@@ -68,6 +73,8 @@ def not_transitive(sees):
 CLASSES = {
     "k": [],
     "kt": [not_reflexive],
+    "k4": [not_transitive],
+    "kd": [not_serial],
     "s4": [not_reflexive, not_transitive],
     "s5": [not_reflexive, not_symmetric, not_transitive],
     "gl": [not_transitive, not_irreflexive],

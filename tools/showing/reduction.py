@@ -5,6 +5,8 @@ from showing import reasons
 LEFT_OUT = {
     "k": None,
     "kt": "that each world sees itself",
+    "k4": "that each world sees all that is seen from what it sees",
+    "kd": None,
     "s4": "that each world sees itself and all that is seen from what it sees",
     "s5": "that each world sees itself, sees back, and sees all that is seen from what it sees",
     "gl": "that each world sees all that is seen from what it sees",
@@ -42,16 +44,37 @@ def covering(rows):
     return sorted(drawn)
 
 
-def reduced(logic, sees):
-    if logic == "k":
-        return [(w, v) for w, row in enumerate(sees) for v in row]
-    if logic == "kt":
-        return without_loops(sees)
+def covering_with_loops(sees):
+    """The covering arrows, and the loops that don't follow: those of worlds that see themselves, and that no other world in
+    their sight sees."""
+    rows = [set(row) for row in sees]
+    alone = [cluster[0] for cluster in clusters_of(rows) if len(cluster) == 1]
+    return sorted(covering(rows) + [(w, w) for w in alone if w in rows[w]])
+
+
+def every_arrow(sees):
+    return [(w, v) for w, row in enumerate(sees) for v in row]
+
+
+def covering_alone(sees):
     return covering([set(row) for row in sees])
+
+
+# the arrows from which the relation follows by the logic's class
+REDUCED = {
+    "k": every_arrow,
+    "kt": without_loops,
+    "k4": covering_with_loops,
+    "kd": every_arrow,
+    "s4": covering_alone,
+    "s5": covering_alone,
+    "gl": covering_alone,
+    "grz": covering_alone,
+}
 
 
 def drawn_arrows(logic, sees, is_reduced):
     """The pairs that are drawn, and in words what is left out, if anything is."""
     if not is_reduced or LEFT_OUT[logic] is None or reasons.of_class(logic, sees):
-        return [(w, v) for w, row in enumerate(sees) for v in row], None
-    return reduced(logic, sees), LEFT_OUT[logic]
+        return every_arrow(sees), None
+    return REDUCED[logic](sees), LEFT_OUT[logic]

@@ -2,7 +2,7 @@
 
 from certificates.formulas import printed
 
-LOGIC_NAMES = {"k": "K", "kt": "KT", "s4": "S4", "s5": "S5", "gl": "GL", "grz": "Grz"}
+LOGIC_NAMES = {"k": "K", "kt": "KT", "k4": "K4", "kd": "KD", "s4": "S4", "s5": "S5", "gl": "GL", "grz": "Grz"}
 
 
 def signed(s):
