@@ -4,7 +4,7 @@ import re
 
 from explaining.grammar import first_fault
 from explaining.guesses import guess
-from explaining.tokens import UNUSED, place
+from explaining.tokens import FUNCTIONS, UNUSED, place
 
 # what a fault line of a run says, by its words, and what is told of it
 RUNS = (
@@ -37,10 +37,31 @@ def pointed(data, line, column=None):
     return [head + shown, " " * (len(head) + letters) + "^"]
 
 
+def other_words(data, fault):
+    """What is wrong where no mend is known, or None: arguments, reserved words, escapes."""
+    opened = fault.opened[-1].at if fault.opened else 0
+    word = re.search(rb"[a-z]+$", data[:opened].rstrip())
+    function = word.group().decode() if word else ""
+    if function in FUNCTIONS and data[opened : opened + 1] == b"(":
+        count = FUNCTIONS[function]
+        if fault.wanted == ")" and fault.token.text == ",":
+            return "an argument too many: `%s` takes %d" % (function, count)
+        if fault.token.text == ")" and (fault.wanted == "," or fault.before.at == opened):
+            return "an argument too few: `%s` takes %d" % (function, count)
+    if fault.wanted == "(" and fault.before.text in FUNCTIONS:
+        return "`%s` is a function and a reserved word: brackets follow it, and it can't be a name" % fault.before.text
+    if fault.before and fault.before.kind == "text" and fault.before.text.endswith('\\"'):
+        return "there are no escapes in a text: it ended at the `\"` before"
+    return None
+
+
 def told_of_syntax(data, fault):
     made = guess(data, fault) if fault.kind == "unexpected" else None
     if made:
         return [made.said] + pointed(data, *place(data, made.at))
+    other = other_words(data, fault) if fault.kind == "unexpected" else None
+    if other:
+        return [other] + pointed(data, fault.line, fault.column)
     if fault.kind in NAMES:
         said = NAMES[fault.kind]
     elif fault.kind == "nested":

@@ -62,6 +62,8 @@ def missing_guesses(data, fault):
     if fault.before is None:
         return
     end = fault.before.at + len(fault.before.text)
+    if fault.wanted == ")" and fault.token.text == ",":
+        return
     if fault.wanted in ("then", "do", "end", ")", "]"):
         opened = " for the `%s` that isn't closed" % fault.opened[-1].text if fault.opened else ""
         spelling = fault.wanted if fault.wanted in ")]" else " %s " % fault.wanted
