@@ -2,6 +2,8 @@
 
 import glob
 import os
+import subprocess
+import tempfile
 
 from checks.report import TOP, text_of
 from explaining import faults, papers
@@ -48,6 +50,7 @@ TOLD = [
     ("print provable(k);", None, "an argument too few: `provable` takes 2"),
     ("print count -> p;", None, "`count` is a function"),
 ]
+PROGRAM = os.path.join(TOP, "crates", "lw", "out", "lw")
 GOOD = "certificate 1\nlogic k\nformula p -> q\nmodel\nworlds 1\nrefuted 0\nworld 0 sees true p\nend\n"
 # what becomes what in the certificate above, and what the first line begins with
 PAPERS = [
@@ -71,6 +74,26 @@ def check_mends(report):
             report.compare("the mend of %r" % text, meant.split(), mended(data, made).decode().split())
         if made:
             report.compare("the grammar on the mend of %r" % text, None, first_fault(mended(data, made)))
+
+
+def fault_by_program(data):
+    """The last line that the built program writes of a script."""
+    with tempfile.NamedTemporaryFile() as file:
+        file.write(data)
+        file.flush()
+        done = subprocess.run([PROGRAM, "run", file.name], stdout=subprocess.PIPE, timeout=20)
+    return (done.stdout.decode().splitlines() or [""])[-1]
+
+
+def check_by_program(report):
+    """Whether the built program, where it stands, reads each mended text."""
+    if not os.access(PROGRAM, os.X_OK):
+        print("tools: the mends aren't given to the program, since it isn't built")
+        return
+    for text, _, _ in MENDED:
+        data = text.encode()
+        last = fault_by_program(mended(data, guess(data, first_fault(data))))
+        report.check("the program on the mend of %r" % text, " column " not in last, last)
 
 
 def check_told(report):
@@ -103,6 +126,7 @@ def check_examples(report):
 
 def check_all(report):
     check_mends(report)
+    check_by_program(report)
     check_told(report)
     check_caret(report)
     check_papers(report)
