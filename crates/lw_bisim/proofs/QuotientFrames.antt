@@ -2,9 +2,9 @@
 use Rattle.std.proofs.Common.{◌≡◌, ◌≢◌, ℕ, ◌<◌, length, ◌↔◌, ⊎_elim, refl, ap, subst, sym, ◌∙◌, arith}
 use Rattle.std.proofs.lemmas.Bool.{cases_eq}
 use Rattle.lw_formula.specs.declared.logic.Logic.{Logic}
-use Rattle.lw_formula.specs.declared.logic.Logic.TheVariants.{K, KT, S4, S5, GL, Grz}
+use Rattle.lw_formula.specs.declared.logic.Logic.TheVariants.{K, KT, S4, S5, GL, Grz, K4, KD}
 use Rattle.lw_formula.specs.FiniteModel.{FiniteModel, IsWellFormed, Sees, HasFact}
-use Rattle.lw_formula.specs.Class.{Class, HasFrame, IsReflexive, IsIrreflexive, IsTransitive, IsSymmetric, IsAntisymmetric}
+use Rattle.lw_formula.specs.Class.{Class, HasFrame, IsReflexive, IsIrreflexive, IsTransitive, IsSymmetric, IsAntisymmetric, IsSerial}
 use Rattle.lw_bisim.specs.Bisimulation.{IsBisimulation}
 use Rattle.lw_bisim.specs.Quotient.{Quotient, IsQuotient, place_of}
 use Rattle.lw_bisim.proofs.StillRounds.{seen_within}
@@ -71,6 +71,13 @@ module _ (m : FiniteModel) (q : Quotient) (ok : IsWellFormed m) (h : IsQuotient 
       let w = seen_from u.0 d e u.2 second in
       subst (λ b. Sees q.model c b) w.2.1 (subst (λ b. Sees q.model b (place_of q.places w.0)) v.1.1 (seen_by_class v.0 w.0 (r v.0 u.0 w.0 u.1 w.1)))
 
+  -- the class of a world sees the class of the world that it sees
+  serial : IsSerial m → IsSerial q.model
+  serial r c l =
+      let v = of_class c l in
+      let u = r v.0 v.1.0 in
+      (place_of q.places u.0, subst (λ d. Sees q.model d (place_of q.places u.0)) v.1.1 (seen_by_class v.0 u.0 u.1))
+
   -- a class that sees itself would have worlds without end, each seen by one before
   irreflexive : IsTransitive m → IsIrreflexive m → IsIrreflexive q.model
   irreflexive up apart c seen =
@@ -108,6 +115,8 @@ module _ (m : FiniteModel) (q : Quotient) (ok : IsWellFormed m) (h : IsQuotient 
   frame S5 f = (reflexive f.0, symmetric f.1, transitive f.2)
   frame GL f = (transitive f.0, irreflexive f.0 f.1)
   frame Grz f = (reflexive f.0, transitive f.1, antisymmetric f.1 f.2)
+  frame K4 f = transitive f
+  frame KD f = serial f
 
   pub class_kept : (logic : Logic) → HasFrame logic m → Class logic q.model
   class_kept logic f = record { well_formed = h.well_formed; frame = frame logic f }

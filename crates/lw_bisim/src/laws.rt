@@ -12,7 +12,7 @@ pub fn quotient_keeps_truth()
     ensures { QuotientKeepsTruth }
 {}
 
-/// The quotient of a model of a logic's class is of that class, in each of the six logics.
+/// The quotient of a model of a logic's class is of that class, in each of the eight logics.
 pub fn quotient_keeps_class()
     ensures { QuotientKeepsClass }
 {}

@@ -81,7 +81,7 @@ rule_by b c =
     if nat_eq b 111 then Rule.One else
     if nat_eq b 116 then Rule.Two else
     if nat_eq b 114 then Rule.Refl else
-    if nat_eq b 115 then Rule.Step else
+    if nat_eq b 115 then (if nat_eq c 116 then Rule.Step else Rule.Serial) else
     if nat_eq c 108 then Rule.Close else Rule.Cut
 
 abbrev pub rule_back : List ℕ → Rule

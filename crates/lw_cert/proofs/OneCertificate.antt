@@ -33,9 +33,16 @@ one-answer text c reads (fault.ModelText line) told = absurd (no-fault (pieces t
 one-answer text c reads (fault.ProofText line) told = absurd (no-fault (pieces text) c told.0 reads told.2)
 one-answer text c reads fault.Memory told = refl
 
+-- a logic whose word begins with k, by the byte behind it
+abbrev k_back : ℕ → Logic
+k_back c =
+    if nat_eq c 116 then Logic.KT else
+    if nat_eq c 52 then Logic.K4 else
+    if nat_eq c 100 then Logic.KD else Logic.K
+
 abbrev logic_back : List ℕ → Logic
 logic_back bytes =
-    if nat_eq (first_byte bytes) 107 then (if nat_eq (second_byte bytes) 116 then Logic.KT else Logic.K) else
+    if nat_eq (first_byte bytes) 107 then k_back (second_byte bytes) else
     if nat_eq (first_byte bytes) 115 then (if nat_eq (second_byte bytes) 52 then Logic.S4 else Logic.S5) else
     if nat_eq (second_byte bytes) 108 then Logic.GL else Logic.Grz
 

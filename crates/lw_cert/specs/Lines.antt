@@ -50,6 +50,7 @@ rule_word Rule.One = codes "one "
 rule_word Rule.Two = codes "two "
 rule_word Rule.Refl = codes "refl "
 rule_word Rule.Step = codes "step "
+rule_word Rule.Serial = codes "serial "
 rule_word Rule.Cut = codes "cut "
 
 -- a sign with the space behind it

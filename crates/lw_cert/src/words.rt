@@ -33,6 +33,8 @@ pub fn rule_of(line: &[u8]) -> Option<(Rule, &[u8])>
         Some((Rule::Refl, rest))
     } else if let Some(rest) = after(line, b"step ") {
         Some((Rule::Step, rest))
+    } else if let Some(rest) = after(line, b"serial ") {
+        Some((Rule::Serial, rest))
     } else if let Some(rest) = after(line, b"cut ") {
         Some((Rule::Cut, rest))
     } else {
@@ -51,6 +53,7 @@ pub fn rule_word(rule: Rule) -> &'static str
         Rule::Two => "two ",
         Rule::Refl => "refl ",
         Rule::Step => "step ",
+        Rule::Serial => "serial ",
         Rule::Cut => "cut ",
     }
 }

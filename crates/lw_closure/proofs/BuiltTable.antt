@@ -5,7 +5,7 @@ use Rattle.std.specs.List.{All, Contains}
 use Rattle.std.proofs.lemmas.Bool.{cases_order}
 use Rattle.std.proofs.lemmas.List.{get_or_default, get_or_past}
 use Rattle.lw_formula.specs.declared.logic.Logic.{Logic}
-use Rattle.lw_formula.specs.declared.logic.Logic.TheVariants.{K, KT, S4, S5, GL, Grz}
+use Rattle.lw_formula.specs.declared.logic.Logic.TheVariants.{K, KT, S4, S5, GL, Grz, K4, KD}
 use Rattle.lw_formula.specs.declared.parts.Parts.TheVariants.{Nothing}
 use Rattle.lw_formula.specs.declared.sign.Sign.TheVariants.{T, F}
 use Rattle.lw_formula.specs.FiniteModel.{AreDistinct}
@@ -95,6 +95,8 @@ few_forms KT own forms limit found fits l m = omega arith
 few_forms S4 own forms limit found fits l m = omega arith
 few_forms S5 own forms limit found fits l m = omega arith
 few_forms GL own forms limit found fits l m = omega arith
+few_forms K4 own forms limit found fits l m = omega arith
+few_forms KD own forms limit found fits l m = omega arith
 
 module _ (old ts : List Formula) (logic : Logic) (goal : FormId) (own forms : List FormId) (found : List (Option ℕ)) (entries : List Entry)
     (live : IsLive old goal) (is_own : AreSubformulas old goal own) (below : AreOperandsBelow old) (grows : Grows old ts) (few : length own ≤ SUBFORMULA_LIMIT) where
@@ -179,6 +181,8 @@ module _ (old ts : List Formula) (logic : Logic) (goal : FormId) (own forms : Li
       found_guard S4 q c j l h = absurd (omega (arith, subst (λ x. FitsLogic x (length own) found) (sym q) fits))
       found_guard S5 q c j l h = absurd (omega (arith, subst (λ x. FitsLogic x (length own) found) (sym q) fits))
       found_guard GL q c j l h = absurd (omega (arith, subst (λ x. FitsLogic x (length own) found) (sym q) fits))
+      found_guard K4 q c j l h = absurd (omega (arith, subst (λ x. FitsLogic x (length own) found) (sym q) fits))
+      found_guard KD q c j l h = absurd (omega (arith, subst (λ x. FitsLogic x (length own) found) (sym q) fits))
 
       guard_found : (logic' : Logic) → logic' ≡ logic → (c : Formula) → IsOfGuard logic' g c → (j : ℕ) × (j < length found) × IsOfOwnGuard (form_at ts own j) c
       guard_found Grz q c h =
@@ -193,6 +197,8 @@ module _ (old ts : List Formula) (logic : Logic) (goal : FormId) (own forms : Li
       guard_found S4 q c h = cc (h.2)
       guard_found S5 q c h = cc (h.2)
       guard_found GL q c h = cc (h.2)
+      guard_found K4 q c h = cc (h.2)
+      guard_found KD q c h = cc (h.2)
 
       -- the guard that an item has, by the formula's own
       guard_shown : (i : ℕ) → i < item_count t →
@@ -244,6 +250,8 @@ module _ (old ts : List Formula) (logic : Logic) (goal : FormId) (own forms : Li
       guard_is S4 q i l = nothing_found i l (no_guard (i / 2) found (subst (λ x. FitsLogic x (length own) found) (sym q) fits))
       guard_is S5 q i l = nothing_found i l (no_guard (i / 2) found (subst (λ x. FitsLogic x (length own) found) (sym q) fits))
       guard_is GL q i l = nothing_found i l (no_guard (i / 2) found (subst (λ x. FitsLogic x (length own) found) (sym q) fits))
+      guard_is K4 q i l = nothing_found i l (no_guard (i / 2) found (subst (λ x. FitsLogic x (length own) found) (sym q) fits))
+      guard_is KD q i l = nothing_found i l (no_guard (i / 2) found (subst (λ x. FitsLogic x (length own) found) (sym q) fits))
 
       of_closure : (c : Formula) → Stands ts forms c → IsOfClosure logic g c
       of_closure c h =

@@ -5,7 +5,7 @@ use Rattle.std.specs.List.{list_any}
 use Rattle.std.specs.Option.{option_map, option_to_list}
 use Rattle.std.proofs.lemmas.Bool.{or_cases, or_left, or_right, and_parts, and_from, false≢true}
 use Rattle.lw_formula.specs.declared.logic.Logic.{Logic}
-use Rattle.lw_formula.specs.declared.logic.Logic.TheVariants.{K, KT, S4, S5, GL, Grz}
+use Rattle.lw_formula.specs.declared.logic.Logic.TheVariants.{K, KT, S4, S5, GL, Grz, K4, KD}
 use Rattle.lw_formula.specs.declared.parts.Parts.{Parts}
 use Rattle.lw_formula.specs.declared.parts.Parts.TheVariants.{One, Two, Nu, Pi}
 use Rattle.lw_formula.specs.declared.sign.Sign.TheVariants.{T, F}
@@ -121,6 +121,11 @@ module _ (ts : List Formula) (t : Table) (keeps : Keeps ts t) where
     | inl own ↦ (let r = own_from is_nu is_nu (item_nu ts t keeps) X Y w h x own in (r.0, or_left (is_nu (parts r.0) && X r.0) ((items t).under X r.0) r.1, r.2))
     | inr below ↦ (let r = under_from X Y w h x below in (r.0, or_right (is_nu (parts r.0) && X r.0) ((items t).under X r.0) r.1, r.2))
   ]
+  kept_from K4 X Y w h = λ x e. elim (or_cases (is_nu (parts_of x) && Y x) (Y (nu_of x)) e) [
+    | inl own ↦ (let r = own_from is_nu is_nu (item_nu ts t keeps) X Y w h x own in (r.0, or_left (is_nu (parts r.0) && X r.0) ((items t).under X r.0) r.1, r.2))
+    | inr below ↦ (let r = under_from X Y w h x below in (r.0, or_right (is_nu (parts r.0) && X r.0) ((items t).under X r.0) r.1, r.2))
+  ]
+  kept_from KD X Y w h = under_from X Y w h
 
   -- a Step is on one of the goal's formulas
   abbrev pub IsOwnStep : Rule → ℕ → Type 0
@@ -137,6 +142,7 @@ module _ (ts : List Formula) (t : Table) (keeps : Keeps ts t) where
   premises_from Rule.Refl i (Nu c) X Y l o w h = (plus_from (c ∷ []) (s c ∷ []) X Y (from_more c [] [] (from_none [])) h, tt)
   premises_from Rule.Step i (Pi c) X Y l o w h =
       (plus_from (added (items t) t.logic i c) (added trees t.logic (s i) (s c)) (kept (items t) t.logic X) (kept trees t.logic Y) (from_added t.logic i c refl l o) (kept_from t.logic X Y w h), tt)
+  premises_from Rule.Serial i (Nu c) X Y l o w h = (kept_from t.logic X Y w h, tt)
   premises_from Rule.Cut i p X Y l o w h = (
     plus_from (i ∷ []) (s i ∷ []) X Y (from_more i [] [] (from_none [])) h,
     (

@@ -5,7 +5,7 @@ use Rattle.std.specs.List.{list_any}
 use Rattle.std.specs.Option.{option_map, option_to_list}
 use Rattle.std.proofs.lemmas.Bool.{or_cases, or_left, or_right, and_parts, and_from, false≢true, ltb-true}
 use Rattle.lw_formula.specs.declared.logic.Logic.{Logic}
-use Rattle.lw_formula.specs.declared.logic.Logic.TheVariants.{K, KT, S4, S5, GL, Grz}
+use Rattle.lw_formula.specs.declared.logic.Logic.TheVariants.{K, KT, S4, S5, GL, Grz, K4, KD}
 use Rattle.lw_formula.specs.declared.parts.Parts.{Parts}
 use Rattle.lw_formula.specs.declared.parts.Parts.TheVariants.{One, Two, Nu, Pi}
 use Rattle.lw_formula.specs.declared.sign.Sign.TheVariants.{T, F}
@@ -93,6 +93,8 @@ module _ (ts : List Formula) (t : Table) (keeps : Keeps ts t) where
   covers_added KT i c l k = covers_more c [] [] k (covers_none [])
   covers_added S4 i c l k = covers_more c [] [] k (covers_none [])
   covers_added S5 i c l k = covers_more c [] [] k (covers_none [])
+  covers_added K4 i c l k = covers_more c [] [] k (covers_none [])
+  covers_added KD i c l k = covers_more c [] [] k (covers_none [])
 
   plus_lifted : (cs : List ℕ) (ds : List Signed) (X : Set ℕ) (Y : SignedSet) → Covers cs ds → IsLifted X Y → IsLifted (plus (items t) cs X) (plus trees ds Y)
   plus_lifted cs ds X Y cover w i e =
@@ -130,6 +132,12 @@ module _ (ts : List Formula) (t : Table) (keeps : Keeps ts t) where
         | inr below ↦ (let h = under_lifted X Y w i below in (h.0, or_right (is_nu (parts_of (s i)) && Y (s i)) (Y (nu_of (s i))) h.1))
       ]
   kept_lifted Grz X Y w = own_lifted is_nu is_nu (item_nu ts t keeps) X Y w
+  kept_lifted K4 X Y w = λ i e.
+      elim (or_cases (is_nu (parts i) && X i) ((items t).under X i) e) [
+        | inl own ↦ (let h = own_lifted is_nu is_nu (item_nu ts t keeps) X Y w i own in (h.0, or_left (is_nu (parts_of (s i)) && Y (s i)) (Y (nu_of (s i))) h.1))
+        | inr below ↦ (let h = under_lifted X Y w i below in (h.0, or_right (is_nu (parts_of (s i)) && Y (s i)) (Y (nu_of (s i))) h.1))
+      ]
+  kept_lifted KD X Y w = under_lifted X Y w
 
   pub premises_lifted : (L : Logic) (r : Rule) (i : ℕ) (p : Parts ℕ) (X : Set ℕ) (Y : SignedSet) → i < n → OfParts (λ j. j < n) p → IsLifted X Y →
       AreLifted (premises (items t) L r i p X) (premises trees L r (s i) (map_parts s p) Y)
@@ -141,6 +149,7 @@ module _ (ts : List Formula) (t : Table) (keeps : Keeps ts t) where
   premises_lifted L Rule.Refl i (Nu c) X Y l b w = (plus_lifted (c ∷ []) (s c ∷ []) X Y (covers_more c [] [] b (covers_none [])) w, tt)
   premises_lifted L Rule.Step i (Pi c) X Y l b w =
       (plus_lifted (added (items t) L i c) (added trees L (s i) (s c)) (kept (items t) L X) (kept trees L Y) (covers_added L i c l b) (kept_lifted L X Y w), tt)
+  premises_lifted L Rule.Serial i (Nu c) X Y l b w = (kept_lifted L X Y w, tt)
   premises_lifted L Rule.Cut i p X Y l b w = (
     plus_lifted (i ∷ []) (s i ∷ []) X Y (covers_more i [] [] l (covers_none [])) w,
     (
@@ -158,6 +167,7 @@ module _ (ts : List Formula) (t : Table) (keeps : Keeps ts t) where
   applies_below X Y w Rule.Two i a = (w i a.1).0
   applies_below X Y w Rule.Refl i a = (w i a.2).0
   applies_below X Y w Rule.Step i a = (w i a.1).0
+  applies_below X Y w Rule.Serial i a = (w i a.2).0
   applies_below X Y w Rule.Cut i a = ltb-true i n a.3
 
   applies_lifted : (X : Set ℕ) (Y : SignedSet) → IsLifted X Y → (r : Rule) (i : ℕ) → i < n → Applies (items t) (cuts t) t.logic X r i → Applies trees may_cut t.logic Y r (s i)
@@ -167,6 +177,7 @@ module _ (ts : List Formula) (t : Table) (keeps : Keeps ts t) where
   applies_lifted X Y w Rule.Two i l a = (ap is_two (sym (keeps.parts i l)) ∙ is_two-map s (parts i) ∙ a.0, (w i a.1).1)
   applies_lifted X Y w Rule.Refl i l a = (a.0, item_nu ts t keeps i l ∙ a.1, (w i a.2).1)
   applies_lifted X Y w Rule.Step i l a = (item_pi ts t keeps i l ∙ a.0, (w i a.1).1)
+  applies_lifted X Y w Rule.Serial i l a = (a.0, item_nu ts t keeps i l ∙ a.1, (w i a.2).1)
   applies_lifted X Y w Rule.Cut i l a = (
     a.0,
     a.1,

@@ -2,7 +2,7 @@
 use Rattle.std.specs.Prelude.{◌≡◌, ℕ, ◌<◌, ◌⊎◌, ◌↔◌, Bool, true, false, if◌then◌else◌, Option, Some, None, All, List, length}
 use Rattle.std.specs.Option.{option_map}
 use Rattle.lw_formula.specs.declared.logic.Logic.{Logic}
-use Rattle.lw_formula.specs.declared.logic.Logic.TheVariants.{K, KT, S4, S5, GL, Grz}
+use Rattle.lw_formula.specs.declared.logic.Logic.TheVariants.{K, KT, S4, S5, GL, Grz, K4, KD}
 use Rattle.lw_formula.specs.Formula.{Formula, IsOperand, IsSubformula}
 use Rattle.lw_formula.specs.Signed.{Signed}
 use Rattle.lw_formula.specs.Components.{parts_of, guard_of, is_absurd}
@@ -20,6 +20,8 @@ has_guards S4 = false
 has_guards S5 = false
 has_guards GL = false
 has_guards Grz = true
+has_guards K4 = false
+has_guards KD = false
 
 -- the guard that a search in the logic adds for s: in Grz, that of a π of one of the goal's subformulas
 abbrev pub guard_in : Logic → Formula → Signed → Option Signed
@@ -29,6 +31,8 @@ guard_in S4 goal s = None
 guard_in S5 goal s = None
 guard_in GL goal s = None
 guard_in Grz goal s = if is_subformula goal s.1 then guard_of s else None
+guard_in K4 goal s = None
+guard_in KD goal s = None
 
 -- c is a subformula of such a guard
 abbrev pub IsOfGuard : Logic → Formula → Formula → Type 0

@@ -28,7 +28,9 @@ pub(crate) fn add_guards(
     ensures fits { IfOk result (λ guards. FitsLogic logic (length forms.old.keys) guards.items) }
 {
     match logic {
-        Logic::K | Logic::KT | Logic::S4 | Logic::S5 | Logic::GL => Ok(Vec::new(alloc)),
+        Logic::K | Logic::KT | Logic::S4 | Logic::S5 | Logic::GL | Logic::K4 | Logic::KD => Ok(
+            Vec::new(alloc),
+        ),
         Logic::Grz => add_each_guard(alloc, pool, forms),
     }
 }

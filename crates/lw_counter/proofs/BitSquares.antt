@@ -82,6 +82,49 @@ loops_more s t u i f g = record {
       (λ w v x. elim (last_or i w x.0) [ inl l ↦ inl (l, x.1) | inr e ↦ inr (e, sym x.1 ∙ e) ]);
 }
 
+-- the loop over the diagonal that passes over what is related to some
+abbrev pub Ends : Square → ℕ → ℕ → ℕ → Type 0
+Ends s i w v = (w < i) × (w ≡ v) × ((u : ℕ) → ¬ Joins s w u)
+
+-- what was related to none before is so still at its turn
+pub ends_old : (s t : Square) (i : ℕ) → SetsBits s t (Ends s i) → ¬ ((v : ℕ) × Joins t i v) → (u : ℕ) → ¬ Joins s i u
+ends_old s t i f none u j = none (u, f.bits.keeps i u j)
+
+pub ends_more : (s t u : Square) (i : ℕ) → SetsBits s t (Ends s i) → ¬ ((v : ℕ) × Joins t i v) → SetsBits t u (λ w v. (w ≡ i) × (v ≡ i)) → SetsBits s u (Ends s (i + 1))
+ends_more s t u i f none g = record {
+  count = g.count ∙ f.count;
+  bits = adds_then (Joins s) (Joins t) (Joins u) (Ends s i) (λ w v. (w ≡ i) × (v ≡ i)) (Ends s (i + 1)) f.bits g.bits
+      (λ w v x. (omega arith, x.1, x.2))
+      (λ w v x. (omega arith, x.0 ∙ sym x.1, subst (λ k. (z : ℕ) → ¬ Joins s k z) (sym x.0) (ends_old s t i f none)))
+      (λ w v x. elim (last_or i w x.0) [ inl l ↦ inl (l, x.1, x.2) | inr e ↦ inr (e, sym x.1 ∙ e) ]);
+}
+
+pub ends_skip : (s t : Square) (i : ℕ) → SetsBits s t (Ends s i) → (v : ℕ) × Joins t i v → SetsBits s t (Ends s (i + 1))
+ends_skip s t i f some = record {
+  count = f.count;
+  bits = adds_as (Joins s) (Joins t) (Ends s i) (Ends s (i + 1)) f.bits
+      (λ w v x. (omega arith, x.1, x.2))
+      (λ w v x. elim (last_or i w x.0) [
+        | inl l ↦ inl (l, x.1, x.2)
+        | inr e ↦ absurd (elim (f.bits.only i some.0 some.1) [
+          | inl old ↦ subst (λ k. (z : ℕ) → ¬ Joins s k z) e x.2 some.0 old
+          | inr new ↦ (let bad : i < i = new.0 in omega arith)
+        ])
+      ]);
+}
+
+pub ends_end : (s t : Square) (n : ℕ) → SetsBits s t (Ends s n) → n ≡ s.count → SetsBits s t (λ w v. (w < s.count) × (w ≡ v) × ((u : ℕ) → ¬ Joins s w u))
+ends_end s t n f e = record {
+  count = f.count;
+  bits = adds_as (Joins s) (Joins t) (Ends s n) (λ w v. (w < s.count) × (w ≡ v) × ((u : ℕ) → ¬ Joins s w u)) f.bits
+      (λ w v x. (omega arith, x.1, x.2))
+      (λ w v x. (let l : w < s.count = x.0 in inl (omega arith, x.1, x.2)));
+}
+
+-- the loop that looks for one
+abbrev pub HasNoneBelow : Square → ℕ → ℕ → Type 0
+HasNoneBelow s from i = (v : ℕ) → v < i → ¬ Joins s from v
+
 -- the loop over a row
 abbrev pub InRow : Square → ℕ → ℕ → ℕ → ℕ → ℕ → Type 0
 InRow s from other i w v = (w ≡ from) × (v < i) × Joins s other v

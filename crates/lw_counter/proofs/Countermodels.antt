@@ -1,9 +1,9 @@
 -- The model of an open fragment is of the logic's class, and each label holds at its world.
-use Rattle.std.proofs.Common.{◌≡◌, ◌≢◌, ℕ, ◌<◌, true, ◌&&◌, Some, [], length, ◌⊎◌, inl, inr, refl, sym, subst, arith}
+use Rattle.std.proofs.Common.{◌≡◌, ◌≢◌, ℕ, ◌<◌, zero, suc, true, ◌&&◌, Option, Some, None, [], length, ◌⊎◌, inl, inr, refl, sym, ap, subst, arith}
 use Rattle.std.specs.Bool.{IsTrue}
 use Rattle.std.proofs.lemmas.Bool.{false≢true, or_left, or_right, and_from, cases_eq}
 use Rattle.lw_formula.specs.declared.logic.Logic.{Logic}
-use Rattle.lw_formula.specs.declared.logic.Logic.TheVariants.{K, KT, S4, S5, GL, Grz}
+use Rattle.lw_formula.specs.declared.logic.Logic.TheVariants.{K, KT, S4, S5, GL, Grz, K4, KD}
 use Rattle.lw_formula.specs.declared.parts.Parts.TheVariants.{Pi}
 use Rattle.lw_formula.specs.declared.sign.Sign.{Sign}
 use Rattle.lw_formula.specs.declared.sign.Sign.TheVariants.{T, F}
@@ -94,6 +94,18 @@ carried GL f label o w v l k r c e =
     ))
     (λ w u v p q h. q (p h).0)
     w v r e).1
+carried K4 f label o w v l k r c e =
+    (reaches_within (IsEdge K4 f) (λ w v. label w (nu_of c) ≡ true → (label v (nu_of c) ≡ true) × (label v c ≡ true))
+    (λ w v edge h. (
+      o.flows w v edge (nu_of c) (or_left (is_nu (parts_of (nu_of c)) && label w (nu_of c)) (label w (nu_of (nu_of c))) (and_from (is_nu (parts_of (nu_of c))) (label w (nu_of c)) (is_nu-nu_of c) h)),
+      o.flows w v edge c (or_right (is_nu (parts_of c) && label w c) (label w (nu_of c)) h),
+    ))
+    (λ w u v p q h. q (p h).0)
+    w v r e).1
+carried KD f label o w v l k r c e = elim r [
+  | inl edge ↦ o.flows w v edge c e
+  | inr end ↦ (let next = o.serial refl w l (nu_of c) (is_nu-nu_of c) e in absurd (end.1 next.0 next.1))
+]
 carried S5 f label o w v l k r c e = beside S5 f label o refl v k c (from_root v k (nu_of c) modal (at_root w l (nu_of c) modal e))
   where
     modal : is_modal_part (parts_of (nu_of c)) ≡ true
@@ -131,6 +143,8 @@ witnessed L f label o w l s c h e = elim (o.served w l s c h e) [
     itself S5 r = tt
     itself GL r = absurd (false≢true r)
     itself Grz r = inl refl
+    itself K4 r = absurd (false≢true r)
+    itself KD r = absurd (false≢true r)
 
     all : (L : Logic) (v : ℕ) → has_cut L ≡ true → IsRelated L f w v
     all S5 v r = tt
@@ -139,6 +153,8 @@ witnessed L f label o w l s c h e = elim (o.served w l s c h e) [
     all S4 v r = absurd (false≢true r)
     all GL v r = absurd (false≢true r)
     all Grz v r = absurd (false≢true r)
+    all K4 v r = absurd (false≢true r)
+    all KD v r = absurd (false≢true r)
 
     along : (L : Logic) (v : ℕ) → IsEdge L f w v → IsRelated L f w v
     along K v e = e
@@ -147,6 +163,8 @@ witnessed L f label o w l s c h e = elim (o.served w l s c h e) [
     along S5 v e = tt
     along GL v e = ([], e)
     along Grz v e = inr ([], e)
+    along K4 v e = ([], e)
+    along KD v e = inl e
 
 -- reflexive closures of transitive relations are transitive
 join_or : (E : ℕ → ℕ → Type 0) (u v w : ℕ) → (u ≡ v) ⊎ Reaches E u v → (v ≡ w) ⊎ Reaches E v w → (u ≡ w) ⊎ Reaches E u w
@@ -166,6 +184,29 @@ module _ (L : Logic) (f : Fragment) (label : ℕ → SignedSet) (m : FiniteModel
       let q = (k.sees v w).0 t in
       (k.sees u w).1 (p.0, q.1, joins u v w p.2 q.2)
 
+-- a number below n has the property, or none has it
+some_below : (P : ℕ → Type 0) → ((v : ℕ) → P v ⊎ (¬ P v)) → (n : ℕ) → ((v : ℕ) × (v < n) × P v) ⊎ ((v : ℕ) → v < n → ¬ P v)
+some_below P either zero = inr (λ v l. absurd (omega arith))
+some_below P either (suc n) = elim (either n) [
+  | inl p ↦ inl (n, omega arith, p)
+  | inr q ↦ elim (some_below P either n) [
+    | inl r ↦ (let l : r.0 < n = r.1 in inl (r.0, omega arith, r.2))
+    | inr others ↦ inr (λ v l. elim (cases_eq v n) [ inl e ↦ subst (λ u. ¬ P u) (sym e) q | inr apart ↦ others v (omega arith) ])
+  ]
+]
+
+-- the number is w or it isn't
+is_own : (o : Option ℕ) (w : ℕ) → (o ≡ Some w) ⊎ (¬ (o ≡ Some w))
+is_own None w = inr (λ e. cc)
+is_own (Some p) w = elim (cases_eq p w) [ inl e ↦ inl (ap Some e) | inr n ↦ inr (λ e. n cc) ]
+
+-- in KD each world has an edge that leads on, or sees itself
+leads_on : (f : Fragment) (label : ℕ → SignedSet) → IsOpen trees KD f label → (w : ℕ) → w < length f.worlds → (v : ℕ) × (v < length f.worlds) × IsRelated KD f w v
+leads_on f label o w l = elim (some_below (λ v. (world_at f v).parent ≡ Some w) (λ v. is_own (world_at f v).parent w) (length f.worlds)) [
+  | inl child ↦ (child.0, child.1, inl (inl child.2))
+  | inr none ↦ (w, l, inr (refl, λ u edge. none u (edge_within KD f o.formed w u edge).1 (parent_edge KD f false≢true w u edge)))
+]
+
 -- the relation is one of the logic's frames
 framed : (L : Logic) (f : Fragment) (label : ℕ → SignedSet) (m : FiniteModel) → IsOpen trees L f label → IsModelOf L f label m → HasFrame L m
 framed K f label m o k = tt
@@ -180,6 +221,11 @@ framed GL f label m o k = (
   transitive GL f label m k (reaches_join (IsEdge GL f)),
   λ w s. (let l : w < w = climbs GL f label o (parent_edge GL f false≢true) w w ((k.sees w w).0 s).2 in omega arith),
 )
+framed K4 f label m o k = transitive K4 f label m k (reaches_join (IsEdge K4 f))
+framed KD f label m o k = λ w l.
+    let size : m.worlds ≡ length f.worlds = k.worlds in
+    let next = leads_on f label o w (omega arith) in
+    (next.0, (k.sees w next.0).1 (omega arith, next.1, next.2))
 framed Grz f label m o k = (
   reflexive Grz f label m k (λ w. inl refl),
   transitive Grz f label m k (join_or (IsEdge Grz f)),

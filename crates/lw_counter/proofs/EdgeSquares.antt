@@ -6,7 +6,7 @@ use Rattle.std.proofs.lemmas.Bool.{false≢true}
 use Rattle.std.proofs.lemmas.List.{take_more, take_all}
 use Rattle.std.proofs.lemmas.List.Elements.{Contains-append_left, Contains-push, Contains-push_cases}
 use Rattle.lw_formula.specs.declared.logic.Logic.{Logic}
-use Rattle.lw_formula.specs.declared.logic.Logic.TheVariants.{K, KT, S4, S5, GL, Grz}
+use Rattle.lw_formula.specs.declared.logic.Logic.TheVariants.{K, KT, S4, S5, GL, Grz, K4, KD}
 use Rattle.lw_counter.specs.Fragment.{Fragment, world_at}
 use Rattle.lw_counter.specs.FragmentPaths.{IsEdge, IsPath, Reaches, Completed, has_links}
 use Rattle.lw_counter.specs.Private.BuiltRelation.{Square, Joins, SetsBits, IsSquareOf}
@@ -100,13 +100,15 @@ path_map E D h w (u ∷ us) v p = (h w u p.0, path_map E D h u us v p.1)
 reaches_map : (E D : ℕ → ℕ → Type 0) → ((w v : ℕ) → E w v → D w v) → (w v : ℕ) → Reaches E w v → Reaches D w v
 reaches_map E D h w v p = (p.0, path_map E D h w p.0 v p.1)
 
-completed_map : (L : Logic) (E D : ℕ → ℕ → Type 0) → ((w v : ℕ) → E w v → D w v) → (w v : ℕ) → Completed L E w v → Completed L D w v
-completed_map K E D h w v x = h w v x
-completed_map KT E D h w v x = elim x [ inl e ↦ inl e | inr y ↦ inr (h w v y) ]
-completed_map S4 E D h w v x = elim x [ inl e ↦ inl e | inr y ↦ inr (reaches_map E D h w v y) ]
-completed_map S5 E D h w v x = tt
-completed_map GL E D h w v x = reaches_map E D h w v x
-completed_map Grz E D h w v x = elim x [ inl e ↦ inl e | inr y ↦ inr (reaches_map E D h w v y) ]
+completed_map : (L : Logic) (E D : ℕ → ℕ → Type 0) → ((w v : ℕ) → E w v → D w v) → ((w v : ℕ) → D w v → E w v) → (w v : ℕ) → Completed L E w v → Completed L D w v
+completed_map K E D h back w v x = h w v x
+completed_map KT E D h back w v x = elim x [ inl e ↦ inl e | inr y ↦ inr (h w v y) ]
+completed_map S4 E D h back w v x = elim x [ inl e ↦ inl e | inr y ↦ inr (reaches_map E D h w v y) ]
+completed_map S5 E D h back w v x = tt
+completed_map GL E D h back w v x = reaches_map E D h w v x
+completed_map Grz E D h back w v x = elim x [ inl e ↦ inl e | inr y ↦ inr (reaches_map E D h w v y) ]
+completed_map K4 E D h back w v x = reaches_map E D h w v x
+completed_map KD E D h back w v x = elim x [ inl y ↦ inl (h w v y) | inr end ↦ inr (end.0, λ u d. end.1 u (back w u d)) ]
 
 -- a square of edges, completed, is the relation that they are completed to
 pub completed_square : (L : Logic) (n : ℕ) (E : ℕ → ℕ → Type 0) (s t : Square) → ((w v : ℕ) → E w v → (w < n) × (v < n)) → IsSquareOf n E s → IsSquareOf s.count (Completed L (Joins s)) t → IsSquareOf n (Completed L E) t
@@ -114,7 +116,7 @@ completed_square L n E s t ends a b = record {
   count = b.count ∙ a.count;
   joins = λ w v l k.
       let both = b.joins w v (let size : s.count ≡ n = a.count in omega arith) (let size : s.count ≡ n = a.count in omega arith) in
-      (λ x. completed_map L (Joins s) E down w v (both.0 x), λ x. both.1 (completed_map L E (Joins s) up w v x));
+      (λ x. completed_map L (Joins s) E down up w v (both.0 x), λ x. both.1 (completed_map L E (Joins s) up down w v x));
 }
   where
     down : (w v : ℕ) → Joins s w v → E w v

@@ -12,14 +12,14 @@ use Rattle.lw_formula.specs.Signed.{Signed, SignedSet, flip}
 use Rattle.lw_formula.specs.Components.{parts_of, is_absurd}
 use Rattle.lw_formula.proofs.ListTests.{list_any-Contains, list_any-Decides}
 use Rattle.lw_proof.specs.System.{Set, trees, same_signed}
-use Rattle.lw_proof.specs.Derivation.{is_modal_part, kept}
+use Rattle.lw_proof.specs.Derivation.{is_modal_part, is_nu, kept}
 use Rattle.lw_proof.proofs.SignedMeaning.{same_signed-Decides}
 use Rattle.lw_closure.specs.Mapping.{OfBoth, map_both, map_parts}
 use Rattle.lw_closure.specs.Table.{Table, item_count, entry_at, flip_item, signed_of}
 use Rattle.lw_closure.specs.Items.{items}
 use Rattle.lw_closure.specs.Keeps.{Keeps}
 use Rattle.lw_closure.specs.Unclosed.{IsServed, IsUnclosed}
-use Rattle.lw_closure.proofs.ItemFormulas.{signed_flip, same_item, item_modal}
+use Rattle.lw_closure.proofs.ItemFormulas.{signed_flip, same_item, item_modal, item_nu}
 use Rattle.lw_closure.proofs.MappedComponents.{pi_before}
 use Rattle.lw_closure.proofs.ItemNumbers.{flip_below}
 use Rattle.lw_closure.proofs.PremiseOrigins.{kept_from}
@@ -113,6 +113,9 @@ module _ (ts : List Formula) (t : Table) (keeps : Keeps ts t) (f : Fragment) (wi
             | inr other ↦ inr (subst (λ y. Y 0 y ≡ true) (signed_flip ts t i.0 ∙ ap flip i.2) (up 0 (flip_item i.0) other))
           ];
     };
+    serial = λ d w l x m h.
+        let i = down w x h in
+        o.serial d w l i.0 (sym (item_nu ts t keeps i.0 (below w i.0 i.1)) ∙ ap (λ y. is_nu (parts_of y)) i.2 ∙ m) i.1;
   }
 
 pub open_lifted : OpenItemsAreOpenFormulas

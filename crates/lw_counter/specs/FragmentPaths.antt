@@ -1,7 +1,7 @@
 -- Edges of a fragment, paths along them, and the relation that each logic makes of them.
 use Rattle.std.specs.Prelude.{◌≡◌, ℕ, ◌⊎◌, Bool, true, false, IsTrue, Some, Contains, ⊤, List, [], ◌∷◌}
 use Rattle.lw_formula.specs.declared.logic.Logic.{Logic}
-use Rattle.lw_formula.specs.declared.logic.Logic.TheVariants.{K, KT, S4, S5, GL, Grz}
+use Rattle.lw_formula.specs.declared.logic.Logic.TheVariants.{K, KT, S4, S5, GL, Grz, K4, KD}
 use Rattle.lw_counter.specs.Fragment.{Fragment, world_at}
 
 -- the logic in which links count as edges
@@ -12,8 +12,10 @@ has_links S4 = true
 has_links S5 = false
 has_links GL = false
 has_links Grz = false
+has_links K4 = true
+has_links KD = false
 
--- an edge leads from a parent to its child, and in S4 along a link
+-- an edge leads from a parent to its child, and in S4 and K4 along a link
 abbrev pub IsEdge : Logic → Fragment → ℕ → ℕ → Type 0
 IsEdge L f w v = ((world_at f v).parent ≡ Some w) ⊎ (IsTrue (has_links L) × Contains f.links (w, v))
 
@@ -26,7 +28,8 @@ IsPath E w (u ∷ us) v = E w u × IsPath E u us v
 abbrev pub Reaches : (ℕ → ℕ → Type 0) → ℕ → ℕ → Type 0
 Reaches E w v = (us : List ℕ) × IsPath E w us v
 
--- what makes of edges a relation of the logic's class: loops in the reflexive logics, paths in the transitive ones, in S5 all pairs
+-- what makes of edges a relation of the logic's class: loops in the reflexive logics, paths in the transitive ones, in S5 all pairs, in KD a
+-- loop wherever no edge leads on
 abbrev pub Completed : Logic → (ℕ → ℕ → Type 0) → ℕ → ℕ → Type 0
 Completed K E w v = E w v
 Completed KT E w v = (w ≡ v) ⊎ E w v
@@ -34,6 +37,8 @@ Completed S4 E w v = (w ≡ v) ⊎ Reaches E w v
 Completed S5 E w v = ⊤
 Completed GL E w v = Reaches E w v
 Completed Grz E w v = (w ≡ v) ⊎ Reaches E w v
+Completed K4 E w v = Reaches E w v
+Completed KD E w v = E w v ⊎ ((w ≡ v) × ((u : ℕ) → ¬ E w u))
 
 -- the relation of the logic's model
 abbrev pub IsRelated : Logic → Fragment → ℕ → ℕ → Type 0

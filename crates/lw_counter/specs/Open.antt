@@ -3,7 +3,7 @@ use Rattle.std.specs.Prelude.{◌≡◌, ◌≢◌, ℕ, ◌<◌, ◌≤◌, ◌
 use Rattle.lw_formula.specs.declared.logic.Logic.{Logic}
 use Rattle.lw_formula.specs.declared.parts.Parts.TheVariants.{Pi}
 use Rattle.lw_proof.specs.System.{Set, System}
-use Rattle.lw_proof.specs.Derivation.{has_refl, has_cut, is_modal_part, kept}
+use Rattle.lw_proof.specs.Derivation.{has_refl, has_cut, has_serial, is_nu, is_modal_part, kept}
 use Rattle.lw_closure.specs.Unclosed.{IsUnclosed}
 use Rattle.lw_counter.specs.Fragment.{Fragment, IsFormed, world_at}
 use Rattle.lw_counter.specs.FragmentPaths.{IsEdge}
@@ -22,7 +22,7 @@ pub record IsRound {I : Type 0} (S : System I) (f : Fragment) (label : ℕ → S
   pub decided : (w : ℕ) → w < length f.worlds → (s : I) → IsTrue (is_modal_part (S.parts s)) → IsTrue (label w s) → IsTrue (label 0 s) ⊎ IsTrue (label 0 (S.flip s))
 
 -- the fragment with these labels is open: there is a world, every label is unclosed, an edge carries all that a step keeps, each π has a
--- witness, and in the logic with cuts all worlds stand round the root
+-- witness, in the logic with cuts all worlds stand round the root, and in the serial logic an edge leads on from each world with a ν
 pub record IsOpen {I : Type 0} (S : System I) (L : Logic) (f : Fragment) (label : ℕ → Set I) : Type 0 where
   pub some : 1 ≤ length f.worlds
   pub formed : IsFormed f
@@ -30,3 +30,4 @@ pub record IsOpen {I : Type 0} (S : System I) (L : Logic) (f : Fragment) (label 
   pub flows : (w v : ℕ) → IsEdge L f w v → (s : I) → IsTrue (kept S L (label w) s) → IsTrue (label v s)
   pub served : (w : ℕ) → w < length f.worlds → (s c : I) → IsTrue (label w s) → S.parts s ≡ Pi c → HasWitness L f label w c
   pub round : IsTrue (has_cut L) → IsRound S f label
+  pub serial : IsTrue (has_serial L) → (w : ℕ) → w < length f.worlds → (s : I) → IsTrue (is_nu (S.parts s)) → IsTrue (label w s) → (v : ℕ) × IsEdge L f w v

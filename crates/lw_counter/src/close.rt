@@ -20,9 +20,9 @@ use std::alloc::AllocError;
 
 impl Fragment {
     /// The model that the fragment makes in the logic. Its worlds are the fragment's in their order, and the variables
-    /// that are true at a world are those that its label has with the sign `T`. A world sees its children, in S4 also
-    /// those that it is linked to; in KT also itself; in GL all that is reached by such steps, in S4 and Grz also
-    /// itself; in S5 each world sees all. It fails for want of memory alone.
+    /// that are true at a world are those that its label has with the sign `T`. A world sees its children, in S4 and
+    /// K4 also those that it is linked to; in KT also itself; in KD itself where it has no child; in GL and K4 all that is
+    /// reached by such steps, in S4 and Grz also itself; in S5 each world sees all. It fails for want of memory alone.
     pub fn close(&self, closure: &Closure, pool: &Pool, logic: Logic) -> Result<Model, AllocError>
         requires some { 1 ≤ length self.now.worlds }
         requires items { HasItemsOf closure.now self.now }
@@ -64,8 +64,8 @@ fn has_links(logic: Logic) -> bool
     ensures { result ≡ has_links logic }
 {
     match logic {
-        Logic::K | Logic::KT | Logic::S5 | Logic::GL | Logic::Grz => false,
-        Logic::S4 => true,
+        Logic::S4 | Logic::K4 => true,
+        Logic::K | Logic::KT | Logic::S5 | Logic::GL | Logic::Grz | Logic::KD => false,
     }
 }
 

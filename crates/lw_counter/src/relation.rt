@@ -69,11 +69,12 @@ impl Relation {
             Logic::K => {}
             Logic::KT => self.add_loops(),
             Logic::S5 => self.fill(),
-            Logic::GL => self.close(),
+            Logic::GL | Logic::K4 => self.close(),
             Logic::S4 | Logic::Grz => {
                 self.close();
                 self.add_loops();
             }
+            Logic::KD => self.add_ends(),
         }
     }
 
@@ -91,6 +92,30 @@ impl Relation {
         for at in 0..self.count() {
             self.add(at, at);
         }
+    }
+
+    // Relates each number that is related to none to itself.
+    fn add_ends(&mut self)
+        ensures { SetsBits self.old self.new (λ w v. (w < self.old.count) × (w ≡ v) × ((u : ℕ) → ¬ Joins self.old w u)) }
+    {
+        for at in 0..self.count() {
+            if !self.has_any(at) {
+                self.add(at, at);
+            }
+        }
+    }
+
+    // Whether the number is related to one.
+    fn has_any(&self, from: usize) -> bool
+        requires { from < self.now.count }
+        ensures { IsTrue result ↔ ((v : ℕ) × Joins self.now from v) }
+    {
+        for to in 0..self.count() {
+            if self.has(from, to) {
+                return true;
+            }
+        }
+        false
     }
 
     // Makes the relation its transitive closure (Warshall's algorithm).

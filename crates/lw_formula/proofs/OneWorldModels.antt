@@ -3,7 +3,7 @@ use Rattle.std.proofs.Common.{◌≡◌, ℕ, ◌<◌, ◌≤◌, [], ◌∷◌,
 use Rattle.std.specs.List.{Contains}
 use Rattle.std.proofs.lemmas.List.Elements.{All-nil, All-cons}
 use Rattle.lw_formula.specs.declared.logic.Logic.{Logic}
-use Rattle.lw_formula.specs.declared.logic.Logic.TheVariants.{K, KT, S4, S5, GL, Grz}
+use Rattle.lw_formula.specs.declared.logic.Logic.TheVariants.{K, KT, S4, S5, GL, Grz, K4, KD}
 use Rattle.lw_formula.specs.Formula.{falsum}
 use Rattle.lw_formula.specs.FiniteModel.{FiniteModel, IsWellFormed, Sees}
 use Rattle.lw_formula.specs.Class.{Class}
@@ -46,8 +46,13 @@ loop-sees v w e f = subst (Contains ((0, 0) ∷ [])) (λ i. (sym e i, sym f i)) 
 -- which of the two is of the logic's class
 abbrev pub one_world : Logic → FiniteModel
 one_world K = dead_end
+one_world KT = loop
+one_world S4 = loop
+one_world S5 = loop
 one_world GL = dead_end
-one_world _ = loop
+one_world Grz = loop
+one_world K4 = dead_end
+one_world KD = loop
 
 reflexive : (w : ℕ) → w < 1 → Sees loop w w
 reflexive w l = loop-sees w w (omega arith) (omega arith)
@@ -68,6 +73,8 @@ one_world-Class S4 = record { well_formed = loop-IsWellFormed; frame = (reflexiv
 one_world-Class S5 = record { well_formed = loop-IsWellFormed; frame = (reflexive, symmetric, transitive) }
 one_world-Class GL = record { well_formed = dead_end-IsWellFormed; frame = (λ u v w s t. absurd (Contains-nil (u, v) s), λ w s. Contains-nil (w, w) s) }
 one_world-Class Grz = record { well_formed = loop-IsWellFormed; frame = (reflexive, transitive, antisymmetric) }
+one_world-Class K4 = record { well_formed = dead_end-IsWellFormed; frame = λ u v w s t. absurd (Contains-nil (u, v) s) }
+one_world-Class KD = record { well_formed = loop-IsWellFormed; frame = λ w l. (w, reflexive w l) }
 
 one_world-inhabited : (logic : Logic) → 0 < (one_world logic).worlds
 one_world-inhabited logic = let some : IsWellFormed (one_world logic) = (one_world-Class logic).well_formed in let one : 1 ≤ (one_world logic).worlds = some.inhabited in omega arith

@@ -6,7 +6,7 @@ use Rattle.std.proofs.lemmas.Bool.{false≢true, cases_eq}
 use Rattle.std.proofs.lemmas.List.Elements.{Contains-append_cases, Contains-append_left, Contains-append_right, All-append, All-filter, All-contains}
 use Rattle.std.proofs.lemmas.Slice.Eq.{bytes_eq-Decides}
 use Rattle.lw_formula.specs.declared.logic.Logic.{Logic}
-use Rattle.lw_formula.specs.declared.logic.Logic.TheVariants.{K, KT, S4, S5, GL, Grz}
+use Rattle.lw_formula.specs.declared.logic.Logic.TheVariants.{K, KT, S4, S5, GL, Grz, K4, KD}
 use Rattle.lw_formula.specs.Formula.{Formula, letter, falsum, verum, neg, conj, disj, impl, equi, nec, poss}
 use Rattle.lw_formula.specs.Variables.{replace}
 use Rattle.lw_formula.specs.FiniteModel.{FiniteModel, IsWellFormed, Sees, HasFact, AreDistinct}
@@ -183,6 +183,8 @@ HasFrame-revalued S4 m p test h = h
 HasFrame-revalued S5 m p test h = h
 HasFrame-revalued GL m p test h = h
 HasFrame-revalued Grz m p test h = h
+HasFrame-revalued K4 m p test h = h
+HasFrame-revalued KD m p test h = h
 
 pub Class-revalued : (logic : Logic) (m : FiniteModel) (p : List ℕ) (test : ℕ → Bool) → Class logic m → Class logic (revalued m p test)
 Class-revalued logic m p test h = record {

@@ -10,6 +10,8 @@ pub enum Logic {
     S5,
     GL,
     Grz,
+    K4,
+    KD,
 }
 
 impl Logic {
@@ -24,6 +26,8 @@ impl Logic {
             Logic::S5 => "s5",
             Logic::GL => "gl",
             Logic::Grz => "grz",
+            Logic::K4 => "k4",
+            Logic::KD => "kd",
         }
     }
 
@@ -44,6 +48,10 @@ impl Logic {
             Some(Logic::GL)
         } else if word == b"grz".as_slice() {
             Some(Logic::Grz)
+        } else if word == b"k4".as_slice() {
+            Some(Logic::K4)
+        } else if word == b"kd".as_slice() {
+            Some(Logic::KD)
         } else {
             None
         }

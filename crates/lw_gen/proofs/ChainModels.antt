@@ -2,7 +2,7 @@
 use Rattle.std.proofs.Common.{◌≡◌, ◌≤◌, ◌<◌, ◌+◌, ℕ, zero, suc, List, ◌++◌, codes, ⊎_elim, ap, arith}
 use Rattle.std.specs.List.{Contains}
 use Rattle.std.proofs.lemmas.List.Elements.{Contains-append_left, Contains-append_right, Contains-append_cases}
-use Rattle.lw_formula.specs.declared.logic.Logic.TheVariants.{K, KT, GL}
+use Rattle.lw_formula.specs.declared.logic.Logic.TheVariants.{K, KT, GL, K4, KD}
 use Rattle.lw_formula.specs.FiniteModel.{FiniteModel, IsWellFormed, Sees}
 use Rattle.lw_formula.specs.Truth.{IsTrueAt}
 use Rattle.lw_formula.specs.Validity.{Valid}
@@ -84,6 +84,11 @@ not_in_KT i valid = chain-refutes i (valid (chain (suc i)) (record { well_formed
 pub not_in_K : (i : ℕ) → ¬ Valid K (family_formula Transitive i)
 not_in_K i valid = chain-refutes i (valid (chain (suc i)) (record { well_formed = chain-IsWellFormed (suc i); frame = tt }) 0 (omega arith))
 
+-- each world of the chain sees one, itself
+pub not_in_KD : (i : ℕ) → ¬ Valid KD (family_formula Transitive i)
+not_in_KD i valid =
+    chain-refutes i (valid (chain (suc i)) (record { well_formed = chain-IsWellFormed (suc i); frame = λ w l. (w, chain-loops (suc i) w l) }) 0 (omega arith))
+
 -- where no path of k steps begins, all is true under k boxes
 order-holds : (n k w : ℕ) → n ≤ k + w → w < n → IsTrueAt (order n) w (boxes k p)
 order-holds n zero w l b = absurd (omega (arith, l, b))
@@ -99,6 +104,11 @@ order-refutes i h = order-fails (suc i) i 0 (omega arith) (h (order-holds (suc i
 
 pub irreflexive_in_GL : (i : ℕ) → ¬ Valid GL (family_formula Reflexive i)
 irreflexive_in_GL i valid = order-refutes i (valid (order (suc i)) (order-Class (suc i) (omega arith)) 0 (omega arith))
+
+pub irreflexive_in_K4 : (i : ℕ) → ¬ Valid K4 (family_formula Reflexive i)
+irreflexive_in_K4 i valid =
+    let c = order-Class (suc i) (omega arith) in
+    order-refutes i (valid (order (suc i)) (record { well_formed = c.well_formed; frame = c.frame.0 }) 0 (omega arith))
 
 pub irreflexive_in_K : (i : ℕ) → ¬ Valid K (family_formula Reflexive i)
 irreflexive_in_K i valid = order-refutes i (valid (order (suc i)) (record { well_formed = order-IsWellFormed (suc i) (omega arith); frame = tt }) 0 (omega arith))

@@ -1,4 +1,4 @@
--- How many formulas of the families are valid in the six logics.
+-- How many formulas of the families are valid in the logics K, KT, S4, S5, GL and Grz.
 use Rattle.std.specs.Prelude.{◌≡◌, ◌⊎◌, ◌+◌, ◌*◌, ℕ, zero, suc, List, [], ◌∷◌, ◌++◌}
 use Rattle.lw_formula.specs.declared.logic.Logic.{Logic}
 use Rattle.lw_formula.specs.declared.logic.Logic.TheVariants.{K, KT, S4, S5, GL, Grz}
@@ -17,7 +17,7 @@ pub data Sums {A : Type 0} (Counts : A → ℕ → Type 0) : List A → ℕ → 
 abbrev pub Scores : Type 0 → ℕ → Type 0
 Scores P n = (P × (n ≡ 1)) ⊎ ((¬ P) × (n ≡ 0))
 
--- the six logics
+-- the six logics that are asked
 abbrev pub logics : List Logic
 logics = K ∷ KT ∷ S4 ∷ S5 ∷ GL ∷ Grz ∷ []
 

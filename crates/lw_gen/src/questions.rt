@@ -31,9 +31,9 @@ const FAMILIES: [Family; 4] = [
     Family::Coded,
 ];
 
-/// How many of the families' formulas for the numbers from 1 to n are valid, each asked of each of the six logics; n is
-/// at most 100. It fails for want of memory alone. After either answer the pool has what it had, and perhaps formulas
-/// above.
+/// How many of the families' formulas for the numbers from 1 to n are valid, each asked of each of K, KT, S4, S5, GL
+/// and Grz; n is at most 100. It fails for want of memory alone. After either answer the pool has what it had, and
+/// perhaps formulas above.
 pub fn summary(alloc: Global, pool: &mut Pool, n: u64) -> Result<Summary, AllocError>
     requires least { 1 ≤ n }
     requires most { n ≤ 100 }

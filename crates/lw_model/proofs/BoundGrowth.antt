@@ -3,7 +3,7 @@ use Rattle.std.proofs.Common.{◌≡◌, ℕ, ◌+◌, ◌*◌, ◌^◌, ◌≤�
 use Rattle.std.proofs.lemmas.Nat.{mul-le}
 use Rattle.std.proofs.Math.Nat.{pow-suc, one-le-pow, mul-le-mul_right}
 use Rattle.lw_formula.specs.declared.logic.Logic.{Logic}
-use Rattle.lw_formula.specs.declared.logic.Logic.TheVariants.{K, KT, S4, S5, GL, Grz}
+use Rattle.lw_formula.specs.declared.logic.Logic.TheVariants.{K, KT, S4, S5, GL, Grz, K4, KD}
 use Rattle.lw_model.specs.Bounds.{step_bound, tree_size}
 
 -- a square is no less than its root
@@ -21,6 +21,8 @@ step_bound_small S4 m d l = omega arith
 step_bound_small S5 m d l = omega (arith, square m)
 step_bound_small GL m d l = omega (arith, square m)
 step_bound_small Grz m d l = omega (arith, square m)
+step_bound_small K4 m d l = omega arith
+step_bound_small KD m d l = omega (arith, square m)
 
 -- a tree of more children is no smaller, and neither is a deeper one
 pub tree_wider : (m n b : ℕ) → m ≤ n → tree_size m b ≤ tree_size n b

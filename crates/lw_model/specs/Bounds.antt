@@ -1,7 +1,7 @@
 -- How large a refuting model need be: bounds by the goal's modal depth and its number m of distinct modal subformulas.
 use Rattle.std.specs.Prelude.{◌≢◌, ℕ, zero, suc, ◌≤◌, ◌+◌, ◌*◌, ◌^◌, List, [], ◌∷◌, length, All, ⊤}
 use Rattle.lw_formula.specs.declared.logic.Logic.{Logic}
-use Rattle.lw_formula.specs.declared.logic.Logic.TheVariants.{K, KT, S4, S5, GL, Grz}
+use Rattle.lw_formula.specs.declared.logic.Logic.TheVariants.{K, KT, S4, S5, GL, Grz, K4, KD}
 use Rattle.lw_formula.specs.Formula.{Formula, depth, modal_count}
 use Rattle.lw_formula.specs.Variables.{Occurs}
 use Rattle.lw_formula.specs.FiniteModel.{FiniteModel, Sees}
@@ -19,6 +19,8 @@ step_bound S4 m d = (m + 1) ^ 2
 step_bound S5 m d = 1
 step_bound GL m d = m
 step_bound Grz m d = m
+step_bound K4 m d = (m + 1) ^ 2
+step_bound KD m d = d
 
 -- the greatest number of worlds
 abbrev pub world_bound : Logic → ℕ → ℕ → ℕ
@@ -43,7 +45,7 @@ IsChain m (w ∷ v ∷ ws) = Sees m w v × (w ≢ v) × IsChain m (v ∷ ws)
 abbrev pub HasChainsUpTo : ℕ → FiniteModel → ℕ → Type 0
 HasChainsUpTo n m w = (ws : List ℕ) → IsChain m (w ∷ ws) → length (w ∷ ws) ≤ n
 
--- the bounds on chains: from the refuting world w in K and KT, from any world in GL and Grz
+-- the bounds on chains: from the refuting world w in K, KT and KD, from any world in GL and Grz
 abbrev pub HasShortChains : Logic → Formula → FiniteModel → ℕ → Type 0
 HasShortChains K a m w = HasChainsUpTo (depth a + 1) m w
 HasShortChains KT a m w = HasChainsUpTo (depth a + 1) m w
@@ -51,3 +53,5 @@ HasShortChains GL a m w = (v : ℕ) → HasChainsUpTo (modal_count a + 1) m v
 HasShortChains Grz a m w = (v : ℕ) → HasChainsUpTo (modal_count a + 1) m v
 HasShortChains S4 a m w = ⊤
 HasShortChains S5 a m w = ⊤
+HasShortChains K4 a m w = ⊤
+HasShortChains KD a m w = HasChainsUpTo (depth a + 1) m w

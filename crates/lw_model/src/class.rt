@@ -1,6 +1,6 @@
 ghost use Rattle.std.specs.Prelude.{◌≡◌, ℕ, ◌⊎◌, ◌↔◌, IsTrue};
 ghost use Rattle.lw_formula.specs.FiniteModel.{Sees};
-ghost use Rattle.lw_formula.specs.Class.{Class, HasFrame, IsReflexive, IsIrreflexive, IsTransitive, IsSymmetric, IsAntisymmetric};
+ghost use Rattle.lw_formula.specs.Class.{Class, HasFrame, IsReflexive, IsIrreflexive, IsTransitive, IsSymmetric, IsAntisymmetric, IsSerial};
 ghost use Rattle.lw_model.specs.Private.PairCover.{IsCovered, Passes, SeesAllOf};
 
 use crate::model::Model;
@@ -27,6 +27,8 @@ fn has_frame(model: &Model, logic: Logic) -> bool
         Logic::S5 => is_preorder(model) && is_symmetric(model),
         Logic::GL => is_transitive(model) && is_irreflexive(model),
         Logic::Grz => is_preorder(model) && is_antisymmetric(model),
+        Logic::K4 => is_transitive(model),
+        Logic::KD => is_serial(model),
     }
 }
 
@@ -56,6 +58,24 @@ fn is_irreflexive(model: &Model) -> bool
         }
     }
     true
+}
+
+fn is_serial(model: &Model) -> bool
+    ensures { IsTrue result ↔ IsSerial model.now }
+{
+    for world in 0..model.worlds() {
+        if !sees_any(model, world) {
+            return false;
+        }
+    }
+    true
+}
+
+// Whether this world sees one.
+fn sees_any(model: &Model, from: usize) -> bool
+    ensures { IsTrue result ↔ ((w : ℕ) × Sees model.now from w) }
+{
+    !model.successors(from).is_empty()
 }
 
 fn is_symmetric(model: &Model) -> bool

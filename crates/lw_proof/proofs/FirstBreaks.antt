@@ -43,11 +43,14 @@ no_step k (Some why) e = absurd (none-some why (sym e))
 
 -- what comes of the principal is what the rule takes
 abbrev takes : {I : Type 0} → Rule → Parts I → Bool
+takes Rule.Close p = true
+takes Rule.Absurd p = true
 takes Rule.One p = is_one p
 takes Rule.Two p = is_two p
 takes Rule.Refl p = is_nu p
 takes Rule.Step p = is_pi p
-takes _ p = true
+takes Rule.Serial p = is_nu p
+takes Rule.Cut p = true
 
 module _ {I : Type 0} (S : System I) where
   -- all five tests of a step are passed
@@ -89,6 +92,7 @@ module _ {I : Type 0} (S : System I) where
     applies_from X Rule.Two s n f = (f.shaped, f.there)
     applies_from X Rule.Refl s n f = (f.known, f.shaped, f.there)
     applies_from X Rule.Step s n f = (f.shaped, f.there)
+    applies_from X Rule.Serial s n f = (f.known, f.shaped, f.there)
     applies_from X Rule.Cut s n f =
         let both = and_parts (same_sign (S.sign s) T) (is_modal_part (S.parts s)) f.shaped in
         (f.known, is_t s both.0, both.1, f.allowed)
@@ -100,6 +104,7 @@ module _ {I : Type 0} (S : System I) where
     fine_where X Rule.Two s n a e = record { known = refl; shaped = a.0; counted = e; there = a.1; allowed = refl }
     fine_where X Rule.Refl s n a e = record { known = a.0; shaped = a.1; counted = e; there = a.2; allowed = refl }
     fine_where X Rule.Step s n a e = record { known = refl; shaped = a.0; counted = e; there = a.1; allowed = refl }
+    fine_where X Rule.Serial s n a e = record { known = a.0; shaped = a.1; counted = e; there = a.2; allowed = refl }
     fine_where X Rule.Cut s n a e =
         record { known = a.0; shaped = and_from (same_sign (S.sign s) T) (is_modal_part (S.parts s)) (t_is s a.1) a.2; counted = e; there = refl; allowed = a.3 }
 
@@ -111,15 +116,19 @@ module _ {I : Type 0} (S : System I) where
     premises_count Rule.Two s (Parts.Two a b) X e = refl
     premises_count Rule.Refl s (Parts.Nu c) X e = refl
     premises_count Rule.Step s (Parts.Pi c) X e = refl
+    premises_count Rule.Serial s (Parts.Nu c) X e = refl
     premises_count Rule.Cut s p X e = refl
     premises_count _ s p X e = absurd (false≢true e)
 
     taken : (X : Set I) (r : Rule) (s : I) → Applies S cuts L X r s → takes r (S.parts s) ≡ true
+    taken X Rule.Close s a = refl
+    taken X Rule.Absurd s a = refl
     taken X Rule.One s a = a.0
     taken X Rule.Two s a = a.0
     taken X Rule.Refl s a = a.1
     taken X Rule.Step s a = a.0
-    taken X _ s a = refl
+    taken X Rule.Serial s a = a.1
+    taken X Rule.Cut s a = refl
 
     -- as many subproofs as sets
     same_count : (Xs : List (Set I)) (ts : Forest I) → ClosedAll S cuts L Xs ts → count_of ts ≡ length Xs

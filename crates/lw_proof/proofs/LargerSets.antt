@@ -4,7 +4,7 @@ use Rattle.std.specs.Bool.{⊤}
 use Rattle.std.specs.List.{list_any}
 use Rattle.std.proofs.lemmas.Bool.{or_cases, or_left, or_right, and_parts, and_from}
 use Rattle.lw_formula.specs.declared.logic.Logic.{Logic}
-use Rattle.lw_formula.specs.declared.logic.Logic.TheVariants.{K, KT, S4, S5, GL, Grz}
+use Rattle.lw_formula.specs.declared.logic.Logic.TheVariants.{K, KT, S4, S5, GL, Grz, K4, KD}
 use Rattle.lw_formula.specs.declared.parts.Parts.{Parts}
 use Rattle.lw_proof.specs.declared.rule.Rule.{Rule}
 use Rattle.lw_proof.specs.Tree.{Tree, Forest, node, none, more}
@@ -37,12 +37,17 @@ module _ {I : Type 0} (S : System I) (under_within : (X Y : Set I) → IsWithin 
       either_within (is_nu (S.parts s) && X s) (is_nu (S.parts s) && Y s) (S.under X s) (S.under Y s)
       (both_within (is_nu (S.parts s)) (X s) (Y s) (h s)) (under_within X Y h s) e
   kept_within Grz X Y h s e = both_within (is_nu (S.parts s)) (X s) (Y s) (h s) e
+  kept_within K4 X Y h s e =
+      either_within (is_nu (S.parts s) && X s) (is_nu (S.parts s) && Y s) (S.under X s) (S.under Y s)
+      (both_within (is_nu (S.parts s)) (X s) (Y s) (h s)) (under_within X Y h s) e
+  kept_within KD X Y h s e = under_within X Y h s e
 
   pub premises_within : (L : Logic) (r : Rule) (s : I) (p : Parts I) (X Y : Set I) → IsWithin X Y → AreWithin (premises S L r s p X) (premises S L r s p Y)
   premises_within L Rule.One s (Parts.One c d) X Y h = (plus_within (side c d) X Y h, tt)
   premises_within L Rule.Two s (Parts.Two a b) X Y h = (plus_within (side a.0 a.1) X Y h, (plus_within (side b.0 b.1) X Y h, tt))
   premises_within L Rule.Refl s (Parts.Nu c) X Y h = (plus_within (c ∷ []) X Y h, tt)
   premises_within L Rule.Step s (Parts.Pi c) X Y h = (plus_within (added S L s c) (kept S L X) (kept S L Y) (kept_within L X Y h), tt)
+  premises_within L Rule.Serial s (Parts.Nu c) X Y h = (kept_within L X Y h, tt)
   premises_within L Rule.Cut s p X Y h = (plus_within (s ∷ []) X Y h, (plus_within (S.flip s ∷ []) X Y h, tt))
   premises_within L _ s p X Y h = tt
 
@@ -53,6 +58,7 @@ module _ {I : Type 0} (S : System I) (under_within : (X Y : Set I) → IsWithin 
   applies_within cuts L X Y h Rule.Two s a = (a.0, h s a.1)
   applies_within cuts L X Y h Rule.Refl s a = (a.0, a.1, h s a.2)
   applies_within cuts L X Y h Rule.Step s a = (a.0, h s a.1)
+  applies_within cuts L X Y h Rule.Serial s a = (a.0, a.1, h s a.2)
   applies_within cuts L X Y h Rule.Cut s a = a
 
   module _ (cuts : Set I) (L : Logic) where

@@ -13,10 +13,10 @@ use Rattle.lw_formula.specs.Components.{parts_of}
 use Rattle.lw_proof.specs.declared.rule.Rule.{Rule}
 use Rattle.lw_proof.specs.Tree.{Tree, Forest, node, none, more}
 use Rattle.lw_proof.specs.System.{trees}
-use Rattle.lw_proof.specs.Derivation.{has_refl, is_one, is_two, is_nu, is_pi, side, plus, added, kept, premises, Applies, Closed, ClosedAll, only, goal_cuts}
+use Rattle.lw_proof.specs.Derivation.{has_refl, has_serial, is_one, is_two, is_nu, is_pi, side, plus, added, kept, premises, Applies, Closed, ClosedAll, only, goal_cuts}
 use Rattle.lw_proof.specs.Laws.{ProvedIsValid}
 use Rattle.lw_proof.proofs.SignedMeaning.{decided, holds_either, never_both, absurd_fails, Means, means, satisfies_plus, satisfies_only}
-use Rattle.lw_proof.proofs.StepWorlds.{seen_within, sees_itself, kept_holds, IsPiOf, target}
+use Rattle.lw_proof.proofs.StepWorlds.{seen_within, sees_itself, sees_one, kept_holds, IsPiOf, target}
 
 module _ (m : FiniteModel) where
   -- one of the sets holds at some world
@@ -48,6 +48,12 @@ module _ (m : FiniteModel) where
     step_sound (T, poss a) e h = inl (reached (T, poss a) (T, a) refl (means m w (T, poss a) h))
     step_sound _ e h = absurd (false≢true e)
 
+    serial_sound : (s : Signed) (p : Parts Signed) → IsTrue (has_serial L) → IsTrue (is_nu p) → Somewhere (premises trees L Rule.Serial s p X)
+    serial_sound s (Parts.Nu c) r e =
+        let found = sees_one L m class r w here in
+        inl (found.0, seen_within m class.well_formed w found.0 found.1, kept_holds m L class w found.0 found.1 X sat)
+    serial_sound s _ r e = absurd (false≢true e)
+
     cut_sound : (s : Signed) → Somewhere (premises trees L Rule.Cut s (parts_of s) X)
     cut_sound s = elim (holds_either m w s) [
       | inl h ↦ inl (w, here, satisfies_plus m w (s ∷ []) X (h, tt) sat)
@@ -62,6 +68,7 @@ module _ (m : FiniteModel) where
     applies_sound cuts Rule.Two s a = two_sound s (parts_of s) a.0 (means m w s (sat s a.1))
     applies_sound cuts Rule.Refl s a = refl_sound s (parts_of s) a.0 a.1 (means m w s (sat s a.2))
     applies_sound cuts Rule.Step s a = step_sound s a.0 (sat s a.1)
+    applies_sound cuts Rule.Serial s a = serial_sound s (parts_of s) a.0 a.1
     applies_sound cuts Rule.Cut s a = cut_sound s
 
   module _ (L : Logic) (class : Class L m) (cuts : SignedSet) where

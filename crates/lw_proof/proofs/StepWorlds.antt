@@ -6,7 +6,7 @@ use Rattle.std.proofs.lemmas.Bool.{false≢true, or_cases, and_parts, cases_eq}
 use Rattle.std.proofs.lemmas.Bool.Decides.{Decides-eqb}
 use Rattle.std.proofs.lemmas.List.Elements.{All-contains}
 use Rattle.lw_formula.specs.declared.logic.Logic.{Logic}
-use Rattle.lw_formula.specs.declared.logic.Logic.TheVariants.{K, KT, S4, S5, GL, Grz}
+use Rattle.lw_formula.specs.declared.logic.Logic.TheVariants.{K, KT, S4, S5, GL, Grz, K4, KD}
 use Rattle.lw_formula.specs.declared.sign.Sign.TheVariants.{T, F}
 use Rattle.lw_formula.specs.declared.parts.Parts.TheVariants.{Pi}
 use Rattle.lw_formula.specs.Formula.{nec, poss}
@@ -17,7 +17,7 @@ use Rattle.lw_formula.specs.Components.{parts_of, guard_of}
 use Rattle.lw_formula.specs.Truth.{IsTrueAt}
 use Rattle.lw_formula.proofs.ListTests.{Decides-either, Decides-pair, list_any-Contains}
 use Rattle.lw_proof.specs.System.{nu_of, trees}
-use Rattle.lw_proof.specs.Derivation.{has_refl, is_nu, is_pi, kept, added}
+use Rattle.lw_proof.specs.Derivation.{has_refl, has_serial, is_nu, is_pi, kept, added}
 use Rattle.lw_proof.proofs.SignedMeaning.{decided, holds_either, holds_decided, HoldsAll, Means}
 use Rattle.lw_proof.proofs.LastWorld.{IsLast, last}
 
@@ -50,6 +50,19 @@ sees_itself S4 m c e w l = c.frame.0 w l
 sees_itself S5 m c e w l = c.frame.0 w l
 sees_itself GL m c e w l = absurd (false≢true e)
 sees_itself Grz m c e w l = c.frame.0 w l
+sees_itself K4 m c e w l = absurd (false≢true e)
+sees_itself KD m c e w l = absurd (false≢true e)
+
+-- where the logic has Serial each world sees one
+pub sees_one : (L : Logic) (m : FiniteModel) → Class L m → IsTrue (has_serial L) → (w : ℕ) → w < m.worlds → (v : ℕ) × Sees m w v
+sees_one K m c e w l = absurd (false≢true e)
+sees_one KT m c e w l = absurd (false≢true e)
+sees_one S4 m c e w l = absurd (false≢true e)
+sees_one S5 m c e w l = absurd (false≢true e)
+sees_one GL m c e w l = absurd (false≢true e)
+sees_one Grz m c e w l = absurd (false≢true e)
+sees_one K4 m c e w l = absurd (false≢true e)
+sees_one KD m c e w l = c.frame w l
 
 module _ (m : FiniteModel) where
   -- the component of a ν holds at each world that is seen
@@ -91,6 +104,12 @@ module _ (m : FiniteModel) where
         | inr below ↦ under_holds w v sees s (sat (nu_of s) below)
       ]
   kept_holds Grz c w v sees X sat = nus_hold c.frame.1 w v sees X sat
+  kept_holds K4 c w v sees X sat = λ s e.
+      elim (or_cases (is_nu (parts_of s) && X s) (X (nu_of s)) e) [
+        | inl old ↦ nus_hold c.frame w v sees X sat s old
+        | inr below ↦ under_holds w v sees s (sat (nu_of s) below)
+      ]
+  kept_holds KD c w v sees X sat = λ s e. under_holds w v sees s (sat (nu_of s) e)
 
   -- in a transitive and irreflexive model: a world at which c holds and that sees no such world
   last_strict : IsWellFormed m → IsTransitive m → IsIrreflexive m → (w : ℕ) (c : Signed) → Means m w (Pi c) →
@@ -173,4 +192,9 @@ module _ (m : FiniteModel) where
   target Grz k w s c e h =
       let found = last_other m k.well_formed k.frame.1 k.frame.2 w c h in
       (found.0, found.1, (found.2, guard_holds k.frame.1 k.frame.2 found.0 s c e found.2 found.3))
-  target _ k w s c e h = (h.0, h.1, (h.2, tt))
+  target K k w s c e h = (h.0, h.1, (h.2, tt))
+  target KT k w s c e h = (h.0, h.1, (h.2, tt))
+  target S4 k w s c e h = (h.0, h.1, (h.2, tt))
+  target S5 k w s c e h = (h.0, h.1, (h.2, tt))
+  target K4 k w s c e h = (h.0, h.1, (h.2, tt))
+  target KD k w s c e h = (h.0, h.1, (h.2, tt))

@@ -8,7 +8,7 @@ use Rattle.lw_proof.specs.declared.why.Why.{Why}
 use Rattle.lw_formula.specs.declared.sign.Sign.TheVariants.{T, F}
 use Rattle.lw_proof.specs.Tree.{Tree, Forest, node, more, lines, count_of}
 use Rattle.lw_proof.specs.System.{Set, System, trees, same_sign}
-use Rattle.lw_proof.specs.Derivation.{has_refl, has_cut, is_one, is_two, is_nu, is_pi, is_modal_part, premises, goal_cuts, only}
+use Rattle.lw_proof.specs.Derivation.{has_refl, has_cut, has_serial, is_one, is_two, is_nu, is_pi, is_modal_part, premises, goal_cuts, only}
 
 -- how many premises the rule has
 abbrev pub arity : Rule → ℕ
@@ -18,6 +18,7 @@ arity Rule.One = 1
 arity Rule.Two = 2
 arity Rule.Refl = 1
 arity Rule.Step = 1
+arity Rule.Serial = 1
 arity Rule.Cut = 2
 
 -- whether the rule is one of the logic
@@ -28,6 +29,7 @@ in_logic L Rule.One = true
 in_logic L Rule.Two = true
 in_logic L Rule.Refl = has_refl L
 in_logic L Rule.Step = true
+in_logic L Rule.Serial = has_serial L
 in_logic L Rule.Cut = has_cut L
 
 -- the first of two, where there is one
@@ -49,6 +51,7 @@ module _ {I : Type 0} (S : System I) where
   fits Rule.Two s = is_two (S.parts s)
   fits Rule.Refl s = is_nu (S.parts s)
   fits Rule.Step s = is_pi (S.parts s)
+  fits Rule.Serial s = is_nu (S.parts s)
   fits Rule.Cut s = same_sign (S.sign s) T && is_modal_part (S.parts s)
 
   -- whether the set has what must be there
@@ -59,6 +62,7 @@ module _ {I : Type 0} (S : System I) where
   present X Rule.Two s = X s
   present X Rule.Refl s = X s
   present X Rule.Step s = X s
+  present X Rule.Serial s = X s
   present X Rule.Cut s = true
 
   -- whether the formula of a cut may be cut
@@ -69,6 +73,7 @@ module _ {I : Type 0} (S : System I) where
   in_goal cuts Rule.Two s = true
   in_goal cuts Rule.Refl s = true
   in_goal cuts Rule.Step s = true
+  in_goal cuts Rule.Serial s = true
   in_goal cuts Rule.Cut s = cuts s
 
   -- the first reason why a step with n subproofs breaks its rule

@@ -1,8 +1,8 @@
--- The calculi of the six logics (Goré, Tableau methods for modal and temporal logics, in the signed notation of Smullyan and Fitting).
+-- The calculi of the eight logics (Goré, Tableau methods for modal and temporal logics, in the signed notation of Smullyan and Fitting).
 use Rattle.std.specs.Prelude.{◌≡◌, Bool, true, false, IsTrue, ◌&&◌, ◌||◌, ⊤, List, [], ◌∷◌, Option, option_to_list}
 use Rattle.std.specs.List.{list_any}
 use Rattle.lw_formula.specs.declared.logic.Logic.{Logic}
-use Rattle.lw_formula.specs.declared.logic.Logic.TheVariants.{K, KT, S4, S5, GL, Grz}
+use Rattle.lw_formula.specs.declared.logic.Logic.TheVariants.{K, KT, S4, S5, GL, Grz, K4, KD}
 use Rattle.lw_formula.specs.declared.sign.Sign.TheVariants.{T, F}
 use Rattle.lw_formula.specs.declared.parts.Parts.{Parts}
 use Rattle.lw_formula.specs.Formula.{Formula, same_formula, subformulas}
@@ -19,6 +19,8 @@ has_refl S4 = true
 has_refl S5 = true
 has_refl GL = false
 has_refl Grz = true
+has_refl K4 = false
+has_refl KD = false
 
 -- the logic in which a proof may cut, on subformulas of its goal alone
 abbrev pub has_cut : Logic → Bool
@@ -28,6 +30,19 @@ has_cut S4 = false
 has_cut S5 = true
 has_cut GL = false
 has_cut Grz = false
+has_cut K4 = false
+has_cut KD = false
+
+-- the logic whose worlds each see one, whatever it is
+abbrev pub has_serial : Logic → Bool
+has_serial K = false
+has_serial KT = false
+has_serial S4 = false
+has_serial S5 = false
+has_serial GL = false
+has_serial Grz = false
+has_serial K4 = false
+has_serial KD = true
 
 -- there is one premise, with all components
 abbrev pub is_one : {I : Type 0} → Parts I → Bool
@@ -70,6 +85,8 @@ module _ {I : Type 0} (S : System I) where
   kept S5 X s = is_modal_part (S.parts s) && X s
   kept GL X s = (is_nu (S.parts s) && X s) || S.under X s
   kept Grz X s = is_nu (S.parts s) && X s
+  kept K4 X s = (is_nu (S.parts s) && X s) || S.under X s
+  kept KD X s = S.under X s
 
   -- what the step on the π s with the component c adds: c, in GL also s under the other sign, in Grz also the guard of s
   abbrev pub added : Logic → I → I → List I
@@ -79,6 +96,8 @@ module _ {I : Type 0} (S : System I) where
   added S5 s c = c ∷ []
   added GL s c = c ∷ S.flip s ∷ []
   added Grz s c = c ∷ option_to_list (S.guard s)
+  added K4 s c = c ∷ []
+  added KD s c = c ∷ []
 
   -- the sets that are left to be closed by a rule on s, which comes to p; none where p isn't what the rule takes
   abbrev pub premises : Logic → Rule → I → Parts I → Set I → List (Set I)
@@ -92,6 +111,8 @@ module _ {I : Type 0} (S : System I) where
   premises L Rule.Refl s _ X = []
   premises L Rule.Step s (Parts.Pi c) X = plus (added L s c) (kept L X) ∷ []
   premises L Rule.Step s _ X = []
+  premises L Rule.Serial s (Parts.Nu c) X = kept L X ∷ []
+  premises L Rule.Serial s _ X = []
   premises L Rule.Cut s p X = plus (s ∷ []) X ∷ plus (S.flip s ∷ []) X ∷ []
 
   -- the rule may be used on s where X is to be closed, with `cuts` for what may be cut: a line for each rule
@@ -102,6 +123,7 @@ module _ {I : Type 0} (S : System I) where
   Applies cuts L X Rule.Two s = IsTrue (is_two (S.parts s)) × IsTrue (X s)
   Applies cuts L X Rule.Refl s = IsTrue (has_refl L) × IsTrue (is_nu (S.parts s)) × IsTrue (X s)
   Applies cuts L X Rule.Step s = IsTrue (is_pi (S.parts s)) × IsTrue (X s)
+  Applies cuts L X Rule.Serial s = IsTrue (has_serial L) × IsTrue (is_nu (S.parts s)) × IsTrue (X s)
   Applies cuts L X Rule.Cut s = IsTrue (has_cut L) × (S.sign s ≡ T) × IsTrue (is_modal_part (S.parts s)) × IsTrue (cuts s)
 
   -- the proof closes the set: its rule may be used, and a subproof closes each premise

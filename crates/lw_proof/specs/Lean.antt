@@ -1,4 +1,5 @@
--- Lean proofs: each premise but a step's has something new, and the formula bounds the steps on a path. So the formula bounds the proof.
+-- Lean proofs: each premise but that of a Step or a Serial has something new, and the formula bounds the Steps on a path; each Serial lowers the
+-- modal depth. So the formula bounds the proof.
 use Rattle.std.specs.Prelude.{ℕ, ◌+◌, ◌^◌, ◌≤◌, max, IsTrue, List, [], ◌∷◌, ⊤}
 use Rattle.lw_formula.specs.declared.logic.Logic.{Logic}
 use Rattle.lw_formula.specs.declared.sign.Sign.TheVariants.{F}
@@ -17,6 +18,7 @@ own_steps Rule.One = 0
 own_steps Rule.Two = 0
 own_steps Rule.Refl = 0
 own_steps Rule.Step = 1
+own_steps Rule.Serial = 0
 own_steps Rule.Cut = 0
 
 -- the greatest number of Steps on a path
@@ -37,7 +39,7 @@ abbrev pub AllHaveNew : {I : Type 0} → Set I → List (Set I) → Type 0
 AllHaveNew X [] = ⊤
 AllHaveNew X (Y ∷ Ys) = HasNew X Y × AllHaveNew X Ys
 
--- so has each premise of a rule other than Step
+-- so has each premise of a rule that goes to no other world
 abbrev pub Gains : {I : Type 0} → Rule → Set I → List (Set I) → Type 0
 Gains Rule.Close X Ys = AllHaveNew X Ys
 Gains Rule.Absurd X Ys = AllHaveNew X Ys
@@ -45,10 +47,11 @@ Gains Rule.One X Ys = AllHaveNew X Ys
 Gains Rule.Two X Ys = AllHaveNew X Ys
 Gains Rule.Refl X Ys = AllHaveNew X Ys
 Gains Rule.Step X Ys = ⊤
+Gains Rule.Serial X Ys = ⊤
 Gains Rule.Cut X Ys = AllHaveNew X Ys
 
 module _ {I : Type 0} (S : System I) where
-  -- the proof that is to close the set has something new in each premise of a rule other than Step
+  -- the proof that is to close the set has something new in each premise of a rule other than Step and Serial
   abbrev mutual
     pub Grows : Logic → Set I → Tree I → Type 0
     Grows L X (node r s ts) = Gains r X (premises S L r s (S.parts s) X) × GrowAll L (premises S L r s (S.parts s) X) ts

@@ -15,6 +15,8 @@ pub enum Rule {
     Refl,
     /// A world that the present one sees: the component of a π, and what the logic keeps.
     Step,
+    /// A world that the present one sees whatever it is: what the logic keeps alone.
+    Serial,
     /// In the first premise a formula is added under T, in the second under F.
     Cut,
 }
@@ -28,7 +30,7 @@ impl Rule {
     {
         match self {
             Rule::Close | Rule::Absurd => 0,
-            Rule::One | Rule::Refl | Rule::Step => 1,
+            Rule::One | Rule::Refl | Rule::Step | Rule::Serial => 1,
             Rule::Two | Rule::Cut => 2,
         }
     }

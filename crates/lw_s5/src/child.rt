@@ -12,7 +12,8 @@ use crate::label::{decides, is_modal, items};
 use crate::obstacle::Obstacle;
 use lw_closure::Closure;
 use lw_formula::Logic;
-use lw_sat::{Found, Saturation, step_over};
+use lw_proof::Rule;
+use lw_sat::{Found, Saturation, over_one};
 use std::alloc::{AllocError, Global};
 
 /// The label of a child of the root that serves the root's π `item` by its component.
@@ -38,7 +39,7 @@ pub(crate) fn child(
     let seed = seed(alloc, closure, root, item, component)?;
     let mut saturation = Saturation::start(alloc, closure, Logic::S5, &seed)?;
     match saturation.next(closure)? {
-        Found::Closed(proof) => Err(Obstacle::Closed(step_over(alloc, closure, item, proof)?)),
+        Found::Closed(proof) => Err(Obstacle::Closed(over_one(alloc, closure, Rule::Step, item, proof)?)),
         Found::Unclosed => match undecided(closure, root, &saturation) {
             Some(formula) => Err(Obstacle::Undecided(formula)),
             None => Ok(items(alloc, closure, &saturation)?),

@@ -86,6 +86,7 @@ new_less cs X Y h (s, there, out) =
 
 gains_any : (r : Rule) (X : Set ℕ) (Ys : List (Set ℕ)) → AllHaveNew X Ys → Gains r X Ys
 gains_any Rule.Step X Ys h = tt
+gains_any Rule.Serial X Ys h = tt
 gains_any _ X Ys h = h
 
 module _ (t : Table) where
@@ -101,7 +102,7 @@ module _ (t : Table) where
 
   -- what grows from a set grows from each smaller one
   mutual
-    grows_less : (p : Tree ℕ) (X Y : Set ℕ) → IsWithin X Y → Grows (items t) t.logic Y p → Grows (items t) t.logic X p
+    pub grows_less : (p : Tree ℕ) (X Y : Set ℕ) → IsWithin X Y → Grows (items t) t.logic Y p → Grows (items t) t.logic X p
     grows_less (node r s ps) X Y h g = (
       gains_less r s (entry_at t s).parts X Y h g.0,
       all_less ps (premises (items t) t.logic r s (entry_at t s).parts X) (premises (items t) t.logic r s (entry_at t s).parts Y) (premises_within (items t) under_within t.logic r s (entry_at t s).parts X Y h) g.1,

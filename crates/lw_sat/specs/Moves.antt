@@ -23,6 +23,7 @@ needed Rule.One item = item ∷ []
 needed Rule.Two item = item ∷ []
 needed Rule.Refl item = item ∷ []
 needed Rule.Step item = item ∷ []
+needed Rule.Serial item = item ∷ []
 needed Rule.Cut item = []
 
 -- what a proof that begins with the rule uses, where the one above the rule uses U

@@ -155,7 +155,13 @@ impl Board {
         ensures { Becomes self.old self.new (record (spot_of self.old) { set = adding (needed rule item) (top self.old.labels) }) }
     {
         match rule {
-            Rule::Close | Rule::Absurd | Rule::One | Rule::Two | Rule::Refl | Rule::Step => {
+            Rule::Close
+            | Rule::Absurd
+            | Rule::One
+            | Rule::Two
+            | Rule::Refl
+            | Rule::Step
+            | Rule::Serial => {
                 add(&mut self.labels, item);
             }
             Rule::Cut => {}

@@ -16,8 +16,8 @@ use lw_closure::Closure;
 use lw_proof::{Proof, Rule};
 use std::alloc::{AllocError, Global};
 
-/// The proof that begins with the rule on the item and goes on with one proof.
-fn over_one(
+/// The proof that begins with the rule on the item and goes on with one proof. It fails for want of memory alone.
+pub fn over_one(
     alloc: Global,
     closure: &Closure,
     rule: Rule,
@@ -30,19 +30,6 @@ fn over_one(
     let mut subs = Vec::new(alloc);
     subs.push(proof)?;
     Ok(Proof::new(rule, closure.signed(item), subs))
-}
-
-/// The proof that begins with the Step on the item and goes on with one proof.
-pub fn step_over(
-    alloc: Global,
-    closure: &Closure,
-    item: usize,
-    proof: Proof,
-) -> Result<Proof, AllocError>
-    requires { item < item_count closure.now }
-    ensures { IfOk result (λ p. p ≡ node Rule.Step (item_at closure.now item) (more proof none)) }
-{
-    over_one(alloc, closure, Rule::Step, item, proof)
 }
 
 /// The proof that begins with the rule on the item and goes on with two proofs.

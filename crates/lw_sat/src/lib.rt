@@ -14,7 +14,7 @@ mod work;
 
 pub use board::Board;
 pub use closing::unwind;
-pub use fold::{fold_frame, step_over};
+pub use fold::{fold_frame, over_one};
 pub use frame::{Folded, Frame, Side};
 pub use round::run;
 pub use saturation::{Found, Saturation};

@@ -5,7 +5,7 @@ use Rattle.std.proofs.Math.Bool.{or-false, and-false, and-or_distrib_left}
 use Rattle.std.proofs.lemmas.List.{take_more}
 use Rattle.std.proofs.lemmas.List.Elements.{All-nil, All-cons}
 use Rattle.lw_formula.specs.declared.logic.Logic.{Logic}
-use Rattle.lw_formula.specs.declared.logic.Logic.TheVariants.{K, KT, S4, S5, GL, Grz}
+use Rattle.lw_formula.specs.declared.logic.Logic.TheVariants.{K, KT, S4, S5, GL, Grz, K4, KD}
 use Rattle.lw_formula.specs.declared.sign.Sign.TheVariants.{T, F}
 use Rattle.lw_formula.specs.declared.parts.Parts.{Parts}
 use Rattle.lw_formula.specs.declared.parts.Parts.TheVariants.{Nu, Pi}
@@ -31,6 +31,8 @@ kept_by_at ts S5 x (Nu c) = refl
 kept_by_at ts S5 x (Pi c) = refl
 kept_by_at ts GL x (Nu c) = refl
 kept_by_at ts Grz x (Nu c) = refl
+kept_by_at ts K4 x (Nu c) = refl
+kept_by_at ts KD x (Nu c) = refl
 kept_by_at ts _ x _ = refl
 
 permuted : (x y u v : Bool) → ((x || y) || (u || v)) ≡ ((x || u) || (y || v))
@@ -49,6 +51,10 @@ kept_both GL X Y s =
     ap (λ b. b || (X (nu_of s) || Y (nu_of s))) (and-or_distrib_left (is_nu (parts_of s)) (X s) (Y s))
     ∙ permuted (is_nu (parts_of s) && X s) (is_nu (parts_of s) && Y s) (X (nu_of s)) (Y (nu_of s))
 kept_both Grz X Y s = and-or_distrib_left (is_nu (parts_of s)) (X s) (Y s)
+kept_both K4 X Y s =
+    ap (λ b. b || (X (nu_of s) || Y (nu_of s))) (and-or_distrib_left (is_nu (parts_of s)) (X s) (Y s))
+    ∙ permuted (is_nu (parts_of s) && X s) (is_nu (parts_of s) && Y s) (X (nu_of s)) (Y (nu_of s))
+kept_both KD X Y s = refl
 
 -- and of the empty set nothing
 kept_none : (L : Logic) (s : Signed) → kept trees L (λ t. false) s ≡ false
@@ -58,6 +64,8 @@ kept_none S4 s = and-false (is_nu (parts_of s))
 kept_none S5 s = and-false (is_modal_part (parts_of s))
 kept_none GL s = ap (λ b. b || false) (and-false (is_nu (parts_of s)))
 kept_none Grz s = and-false (is_nu (parts_of s))
+kept_none K4 s = ap (λ b. b || false) (and-false (is_nu (parts_of s)))
+kept_none KD s = refl
 
 -- the component of a ν
 under_true : (a b : Formula) → same_formula a (nec b) ≡ among (kept_by K (T, a) (parts_of (T, a))) (T, b)
@@ -114,6 +122,8 @@ kept_one S4 t s = nus_kept t s
 kept_one S5 t s = moved (λ u. is_modal_part (parts_of u)) t s ∙ modal_kept (parts_of t) t s
 kept_one GL t s = (λ i. nus_kept t s i || under_one t s i) ∙ both_kept (parts_of t) t s
 kept_one Grz t s = nus_kept t s
+kept_one K4 t s = (λ i. nus_kept t s i || under_one t s i) ∙ both_kept (parts_of t) t s
+kept_one KD t s = under_one t s
 
 -- before the first member
 pub kept_before : (L : Logic) (ts : List Formula) → set_of ts [] ≡ kept trees L (set_of ts [])
@@ -133,6 +143,8 @@ kept_by_live now S5 x (Nu c) l m = side_live now x None l tt
 kept_by_live now S5 x (Pi c) l m = side_live now x None l tt
 kept_by_live now GL x (Nu c) l m = side_live now x (Some c) l m
 kept_by_live now Grz x (Nu c) l m = side_live now x None l tt
+kept_by_live now K4 x (Nu c) l m = side_live now x (Some c) l m
+kept_by_live now KD x (Nu c) l m = side_live now c None m tt
 kept_by_live now _ x _ l m = All-nil (λ (y : SignedId). IsLive now y.form)
 
 -- one more member

@@ -30,14 +30,24 @@ fn keep(
     ensures { OnOk result (AddsAll kept.old kept.new (kept_by logic item parts)) }
 {
     match (logic, parts) {
-        (Logic::K | Logic::KT, Parts::Nu(part)) => kept.add(part),
+        (Logic::K | Logic::KT | Logic::KD, Parts::Nu(part)) => kept.add(part),
         (Logic::S4 | Logic::S5 | Logic::Grz, Parts::Nu(_)) | (Logic::S5, Parts::Pi(_)) => {
             kept.add(item)
         }
-        (Logic::GL, Parts::Nu(part)) => {
+        (Logic::GL | Logic::K4, Parts::Nu(part)) => {
             kept.add(item)?;
             kept.add(part)
         }
-        (Logic::K | Logic::KT | Logic::S4 | Logic::S5 | Logic::GL | Logic::Grz, _) => Ok(()),
+        (
+            Logic::K
+            | Logic::KT
+            | Logic::S4
+            | Logic::S5
+            | Logic::GL
+            | Logic::Grz
+            | Logic::K4
+            | Logic::KD,
+            _,
+        ) => Ok(()),
     }
 }

@@ -41,7 +41,7 @@ fn companion(pool: &mut Pool, logic: Logic, item: SignedId) -> Result<Option<Sig
     ensures grows { Grows pool.old pool.new }
 {
     match logic {
-        Logic::K | Logic::KT | Logic::S4 | Logic::S5 => Ok(None),
+        Logic::K | Logic::KT | Logic::S4 | Logic::S5 | Logic::K4 | Logic::KD => Ok(None),
         Logic::GL => Ok(Some(item.flip())),
         Logic::Grz => pool.guard(item),
     }

@@ -3,7 +3,7 @@ use Rattle.std.specs.Prelude.{◌≡◌, ℕ, ◌+◌, ◌-◌, ◌*◌, ◌<◌
 use Rattle.std.specs.List.{slice_index_or}
 use Rattle.std.specs.Option.{option_map, ForSome}
 use Rattle.lw_formula.specs.declared.logic.Logic.{Logic}
-use Rattle.lw_formula.specs.declared.logic.Logic.TheVariants.{K, KT, S4, S5, GL, Grz}
+use Rattle.lw_formula.specs.declared.logic.Logic.TheVariants.{K, KT, S4, S5, GL, Grz, K4, KD}
 use Rattle.lw_formula.specs.declared.sign.Sign.TheVariants.{T, F}
 use Rattle.lw_formula.specs.Formula.{Formula, conj, impl, nec, poss, is_modal, IsSubformula}
 use Rattle.lw_formula.specs.Signed.{Signed}
@@ -73,3 +73,5 @@ FitsLogic S4 n found = length found ≡ 0
 FitsLogic S5 n found = length found ≡ 0
 FitsLogic GL n found = length found ≡ 0
 FitsLogic Grz n found = length found ≡ n
+FitsLogic K4 n found = length found ≡ 0
+FitsLogic KD n found = length found ≡ 0

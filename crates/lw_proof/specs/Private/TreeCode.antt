@@ -51,6 +51,7 @@ rule_number Rule.Two = 3
 rule_number Rule.Refl = 4
 rule_number Rule.Step = 5
 rule_number Rule.Cut = 6
+rule_number Rule.Serial = 7
 
 -- the rule for which the number stands
 abbrev pub numbered_rule : ℕ → Rule
@@ -60,7 +61,8 @@ numbered_rule k =
     if k == 2 then Rule.One else
     if k == 3 then Rule.Two else
     if k == 4 then Rule.Refl else
-    if k == 5 then Rule.Step else Rule.Cut
+    if k == 5 then Rule.Step else
+    if k == 6 then Rule.Cut else Rule.Serial
 
 pub numbered_rule-rule_number : (r : Rule) → numbered_rule (rule_number r) ≡ r
 numbered_rule-rule_number Rule.Close = refl
@@ -70,6 +72,7 @@ numbered_rule-rule_number Rule.Two = refl
 numbered_rule-rule_number Rule.Refl = refl
 numbered_rule-rule_number Rule.Step = refl
 numbered_rule-rule_number Rule.Cut = refl
+numbered_rule-rule_number Rule.Serial = refl
 
 -- the rule and the principal, then the subproofs
 abbrev mutual

@@ -1,7 +1,7 @@
 -- What a step keeps, by the components of each member.
 use Rattle.std.specs.Prelude.{List, [], ◌∷◌}
 use Rattle.lw_formula.specs.declared.logic.Logic.{Logic}
-use Rattle.lw_formula.specs.declared.logic.Logic.TheVariants.{K, KT, S4, S5, GL, Grz}
+use Rattle.lw_formula.specs.declared.logic.Logic.TheVariants.{K, KT, S4, S5, GL, Grz, K4, KD}
 use Rattle.lw_formula.specs.declared.parts.Parts.{Parts}
 use Rattle.lw_formula.specs.declared.parts.Parts.TheVariants.{Nu, Pi}
 
@@ -20,3 +20,7 @@ kept_by GL s (Nu c) = s ∷ c ∷ []
 kept_by GL s _ = []
 kept_by Grz s (Nu c) = s ∷ []
 kept_by Grz s _ = []
+kept_by K4 s (Nu c) = s ∷ c ∷ []
+kept_by K4 s _ = []
+kept_by KD s (Nu c) = c ∷ []
+kept_by KD s _ = []

@@ -34,15 +34,20 @@ logic_number Logic.S4 = 2
 logic_number Logic.S5 = 3
 logic_number Logic.GL = 4
 logic_number Logic.Grz = 5
+logic_number Logic.K4 = 6
+logic_number Logic.KD = 7
 
--- the logic for which the number stands
+-- the logic for which the number stands; a number that stands for none gives K
 abbrev pub numbered_logic : ℕ → Logic
 numbered_logic k =
     if k == 0 then Logic.K else
     if k == 1 then Logic.KT else
     if k == 2 then Logic.S4 else
     if k == 3 then Logic.S5 else
-    if k == 4 then Logic.GL else Logic.Grz
+    if k == 4 then Logic.GL else
+    if k == 5 then Logic.Grz else
+    if k == 6 then Logic.K4 else
+    if k == 7 then Logic.KD else Logic.K
 
 pub numbered_logic-logic_number : (l : Logic) → numbered_logic (logic_number l) ≡ l
 numbered_logic-logic_number Logic.K = refl
@@ -51,6 +56,8 @@ numbered_logic-logic_number Logic.S4 = refl
 numbered_logic-logic_number Logic.S5 = refl
 numbered_logic-logic_number Logic.GL = refl
 numbered_logic-logic_number Logic.Grz = refl
+numbered_logic-logic_number Logic.K4 = refl
+numbered_logic-logic_number Logic.KD = refl
 
 -- the code of a model's pairs
 abbrev pub pairs_code : List (ℕ × ℕ) → Gv
