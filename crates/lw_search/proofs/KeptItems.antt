@@ -3,7 +3,7 @@ use Rattle.std.proofs.Common.{◌≡◌, ℕ, zero, suc, ◌<◌, Bool, true, fa
 use Rattle.std.specs.Cmp.{both_ways as same_bool}
 use Rattle.std.proofs.lemmas.Bool.{and_parts, and_from, or_cases, or_left, or_right, eq-eqb, eqb-true, false_from_ne_true, false≢true, true≢false}
 use Rattle.lw_formula.specs.declared.logic.Logic.{Logic}
-use Rattle.lw_formula.specs.declared.logic.Logic.TheVariants.{K, KT, S4, S5, GL, Grz}
+use Rattle.lw_formula.specs.declared.logic.Logic.TheVariants.{K, KT, S4, S5, GL, Grz, K4, KD}
 use Rattle.lw_formula.specs.declared.parts.Parts.{Parts}
 use Rattle.lw_formula.specs.declared.parts.Parts.TheVariants.{Nothing, One, Two, Nu, Pi}
 use Rattle.lw_proof.specs.System.{Set, IsWithin}
@@ -59,6 +59,8 @@ module _ (t : Table) (uncut : has_cut t.logic ≡ false) where
       kept_leads S5 c e = absurd (true≢false c)
       kept_leads GL c e = elim (or_cases (is_nu (entry_at t j).parts && X j) ((items t).under X j) e) [ inl a ↦ nu_leads GL refl a | inr b ↦ under_leads GL refl b ]
       kept_leads Grz c e = nu_leads Grz refl e
+      kept_leads K4 c e = elim (or_cases (is_nu (entry_at t j).parts && X j) ((items t).under X j) e) [ inl a ↦ nu_leads K4 refl a | inr b ↦ under_leads K4 refl b ]
+      kept_leads KD c e = under_leads KD refl e
 
     module _ (i : ℕ) (l : i < item_count t) (there : X i ≡ true) where
       nu_kept : {c : ℕ} → (entry_at t i).parts ≡ Nu c → i ≡ j → (is_nu (entry_at t j).parts && X j) ≡ true
@@ -79,6 +81,10 @@ module _ (t : Table) (uncut : has_cut t.logic ≡ false) where
       leads_kept GL c (d, is, inr h) = or_right (is_nu (entry_at t j).parts && X j) ((items t).under X j) (under_kept is h.1)
       leads_kept Grz c (d, is, inl h) = nu_kept is h.1
       leads_kept Grz c (d, is, inr h) = absurd (false≢true h.0)
+      leads_kept K4 c (d, is, inl h) = or_left (is_nu (entry_at t j).parts && X j) ((items t).under X j) (nu_kept is h.1)
+      leads_kept K4 c (d, is, inr h) = or_right (is_nu (entry_at t j).parts && X j) ((items t).under X j) (under_kept is h.1)
+      leads_kept KD c (d, is, inl h) = absurd (false≢true h.0)
+      leads_kept KD c (d, is, inr h) = under_kept is h.1
 
   -- what is kept of one item
   module _ (i : ℕ) (l : i < item_count t) where
