@@ -16,7 +16,7 @@ use Rattle.lw_sat.specs.Sets.{nothing, IsOfItems}
 use Rattle.lw_search.specs.Step.{keeps_inside, keeps_nu}
 use Rattle.lw_search.specs.Private.StepUse.{kept_of, meets}
 
-nu_with : (p : Parts ℕ) → is_nu p ≡ true → (c : ℕ) × (p ≡ Nu c)
+pub nu_with : (p : Parts ℕ) → is_nu p ≡ true → (c : ℕ) × (p ≡ Nu c)
 nu_with (Nu c) e = (c, refl)
 nu_with Nothing e = absurd (false≢true e)
 nu_with (One c d) e = absurd (false≢true e)
@@ -134,7 +134,7 @@ module _ (t : Table) (uncut : has_cut t.logic ≡ false) where
     kept_itself : keeps_nu t.logic ≡ true → kept_of t i i ≡ true
     kept_itself k = of_leads i l i (c, sym nu, inl (k, refl))
 
-    kept_inner : keeps_inside t.logic ≡ true → kept_of t i c ≡ true
+    pub kept_inner : keeps_inside t.logic ≡ true → kept_of t i c ≡ true
     kept_inner k = of_leads i l c (c, sym nu, inr (k, refl))
 
     pub kept_nu : kept_of t i ≡ (λ j. (keeps_nu t.logic && eqb i j) || (keeps_inside t.logic && eqb c j))

@@ -177,6 +177,7 @@ module _ (ts : List Formula) (t : Table) (keeps : Keeps ts t) where
 
   gains_lifted : (r : Rule) (X : Set ℕ) (Y : SignedSet) → Lifted X Y → From X Y → (Zs : List (Set ℕ)) (Vs : List SignedSet) → AllLifted Zs Vs → Gains r X Zs → Gains r Y Vs
   gains_lifted Rule.Step X Y w h Zs Vs v new = tt
+  gains_lifted Rule.Serial X Y w h Zs Vs v new = tt
   gains_lifted _ X Y w h Zs Vs v new = all_new_lifted X Y w h Zs Vs v new
 
   mutual

@@ -1,5 +1,6 @@
 // What steps use.
-ghost use Rattle.std.specs.Prelude.{◌≡◌, ℕ, ◌<◌, IsTrue};
+ghost use Rattle.std.specs.Option.{ForSome};
+ghost use Rattle.std.specs.Prelude.{◌≡◌, ℕ, ◌<◌, IsTrue, Some};
 ghost use Rattle.lw_search.specs.Ranked.{StepsTo};
 ghost use Rattle.lw_closure.specs.Table.{item_count};
 ghost use Rattle.lw_sat.specs.SeedPath.{IsWide};
@@ -36,13 +37,25 @@ impl<R: StepRule> Tableau<'_, R> {
         }
     }
 
+    // The component of a π or a ν.
+    fn inner(&self, item: usize) -> Option<usize>
+        requires { item < item_count self.now }
+        ensures below { ForSome result (λ c. c < item_count self.now) }
+        ensures inner { (c : ℕ) → StepsTo self.now item c → result ≡ Some c }
+    {
+        match self.closure.parts(item) {
+            Parts::Nu(inner) | Parts::Pi(inner) => Some(inner),
+            Parts::Nothing | Parts::One(..) | Parts::Two(..) => None,
+        }
+    }
+
     // Takes out of the label above what the step on the item adds.
     fn leave_added(&self, above: &mut Board, item: usize)
         requires wide { IsWide self.now above.old }
         requires item { item < item_count self.now }
         ensures { LosesAdded self.now item above.old above.new }
     {
-        if let Parts::Pi(inner) | Parts::Nu(inner) = self.closure.parts(item) {
+        if let Some(inner) = self.inner(item) {
             above.remove(inner);
             if let Some(beside) = self.rule.beside(self.closure, item) {
                 above.remove(beside);
