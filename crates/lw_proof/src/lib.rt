@@ -1,4 +1,4 @@
-//! Proof trees and the calculus of the six logics, once for all of them, with the law that what has a proof is valid; and
+//! Proof trees and the calculus of the eight logics, once for all of them, with the law that what has a proof is valid; and
 //! the sets of signed ids that a walk over a proof goes by.
 #![tactic(auto)]
 
