@@ -1,5 +1,5 @@
 -- What a Step uses of a label, and what the seed of a step has.
-use Rattle.std.proofs.Common.{◌≡◌, ℕ, ◌<◌, true, false, not, ◌&&◌, cond, eqb, [], ◌∷◌, length, Option, Some, None, inl, inr, refl, sym, ap, subst}
+use Rattle.std.proofs.Common.{◌≡◌, ℕ, ◌<◌, true, false, not, ◌&&◌, cond, eqb, [], ◌∷◌, length, Option, Some, None, inl, inr, refl, sym, ap, subst, ◌∙◌}
 use Rattle.std.specs.Option.{option_to_list, ForSome}
 use Rattle.std.proofs.lemmas.Bool.{and_parts, and_from, or_cases, or_left, or_right, both_ways, cases_Bool, eq-eqb, eqb-true, false≢true, not_from_false}
 use Rattle.lw_formula.specs.declared.logic.Logic.{Logic}
@@ -136,6 +136,11 @@ added_below t table i c l m = go t.logic where
   go Grz = guarded (entry_at t i).guard (table.guard i l)
   go K4 = (m, tt)
   go KD = (m, tt)
+
+-- where the logic isn't serial, steps are on π alone
+pub steps_pi : (t : Table) (i c : ℕ) → has_serial t.logic ≡ false → StepsTo t i c → (entry_at t i).parts ≡ Pi c
+steps_pi t i c apart (inl pi) = pi
+steps_pi t i c apart (inr nu) = absurd (false≢true (sym apart ∙ nu.0))
 
 pub inner_below : (t : Table) → IsTable t → (i c : ℕ) → i < item_count t → StepsTo t i c → c < item_count t
 inner_below t table i c l (inl e) = subst (OfParts (λ j. j < item_count t)) e (table.parts i l)
