@@ -9,7 +9,7 @@ use Rattle.lw_formula.specs.declared.logic.Logic.TheVariants.{S5}
 use Rattle.lw_formula.specs.declared.parts.Parts.{Parts}
 use Rattle.lw_formula.specs.declared.parts.Parts.TheVariants.{Pi}
 use Rattle.lw_proof.specs.System.{Set, IsWithin}
-use Rattle.lw_proof.specs.Derivation.{has_cut, is_modal_part, kept}
+use Rattle.lw_proof.specs.Derivation.{has_cut, has_serial, is_modal_part, kept}
 use Rattle.lw_closure.specs.Items.{items}
 use Rattle.lw_closure.specs.Table.{Table, entry_at, flip_item, item_count}
 use Rattle.lw_closure.specs.Unclosed.{IsUnclosedLabel}
@@ -185,6 +185,7 @@ module _ (t : Table) (R : Set ℕ) (f : Fragment) (logic : t.logic ≡ S5) (alik
           )
       | inr link ↦ absurd (false≢true (sym (ap has_links logic) ∙ link.0))
     ];
+    serial = λ serial. absurd (false≢true (sym (ap has_serial logic) ∙ serial));
     served = λ w l s c in_ parts. (let v = in_world w s c l in_ parts in inr (v.0, inr (cut, v.1), v.2));
     round = λ _. record {
       near = h.near;
