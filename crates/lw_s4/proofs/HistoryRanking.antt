@@ -1,12 +1,12 @@
--- The ranking by lacking ν and by the history is what a search owes, in S4.
+-- The ranking by lacking ν and by the history is what a search owes, in S4 and K4.
 use Rattle.std.proofs.Common.{◌≡◌, ℕ, suc, ◌+◌, ◌-◌, ◌*◌, ◌^◌, ◌<◌, ◌≤◌, true, false, not, ◌&&◌, ◌||◌, nat_eq, List, [], ◌∷◌, inl, inr, refl, ap, ◌∙◌, arith, eq-eqb}
 use Rattle.std.proofs.lemmas.Bool.{cases_Bool, or_left, or_right, and_parts, and_from, and_right, both_ways, not-true, not_from_true, not_from_false, false_from_ne_true, leb-true, le-leb}
 use Rattle.std.proofs.lemmas.Nat.{mul-le}
 use Rattle.std.proofs.Math.Nat.{one-mul, suc-mul, pow-zero, pow-suc}
-use Rattle.lw_formula.specs.declared.logic.Logic.TheVariants.{S4}
+use Rattle.lw_formula.specs.declared.parts.Parts.TheVariants.{Pi}
 use Rattle.lw_formula.specs.Formula.{Formula}
 use Rattle.lw_proof.specs.System.{Set}
-use Rattle.lw_proof.specs.Derivation.{has_refl, is_nu}
+use Rattle.lw_proof.specs.Derivation.{has_cut, has_serial, is_nu}
 use Rattle.lw_closure.specs.Table.{Table, entry_at, item_count, IsTable}
 use Rattle.lw_closure.specs.Keeps.{has_guards}
 use Rattle.lw_closure.proofs.ItemFormulas.{own_item}
@@ -67,7 +67,7 @@ module _ (t : Table) where
       let rest = and_parts (X found.0) (not (Y found.0)) both.1 in
       (found.0, found.1, both.0, rest.0, not-true (Y found.0) rest.1)
 
-  module _ (table : IsTable t) (logic : t.logic ≡ S4) where
+  module _ (table : IsTable t) (links : has_links t.logic ≡ true) where
     -- the rank doesn't rise where a label gets more
     larger_rank : (path : List Past) (X Y : Set ℕ) → ((j : ℕ) → X j ≡ true → Y j ≡ true) → rank t path Y ≤ rank t path X
     larger_rank [] X Y more =
@@ -83,7 +83,7 @@ module _ (t : Table) where
             | inr none ↦ (
                 let found = more_nu Y p.label some in
                 let out : X found.0 ≡ false =
-                false_from_ne_true (X found.0) (λ there. both_ways (p.label found.0) found.4 (nus_within t table logic X p.label none found.0 found.2 there)) in
+                false_from_ne_true (X found.0) (λ there. both_ways (p.label found.0) found.4 (nus_within t table X p.label none found.0 found.2 there)) in
                 let less : rank t (p ∷ path) Y < rank t (p ∷ path) X =
                 first_falls (nus_lacked t Y) (nus_lacked t X) (askers t) (fresh t (p ∷ path) Y) (fresh t (p ∷ path) X)
                 (nus_lacked-less t X Y (λ j nu. more j) found.0 found.1 found.2 out found.3) (fresh_few (p ∷ path) Y) in
@@ -125,7 +125,7 @@ module _ (t : Table) where
         longer = (record { world = w; label = X; item = item }) ∷ path
 
         kept_nus : (j : ℕ) → is_nu (entry_at t j).parts ≡ true → X j ≡ true → seed t X item c j ≡ true
-        kept_nus = seed_keeps t table logic X item c
+        kept_nus = seed_keeps t table links X item c
 
         remembers : has_more_nus t (seed t X item c) X ≡ false → (j : ℕ) → (nat_eq item j || history t path X j) ≡ true →
             history t ((record { world = w; label = X; item = item }) ∷ path) (seed t X item c) j ≡ true
