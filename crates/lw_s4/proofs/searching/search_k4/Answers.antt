@@ -1,3 +1,4 @@
+use Rattle.std.proofs.Common.{false}
 use Rattle.lw_s4.proofs.HistoryRanking.{ranked}
 use Rattle.lw_s4.proofs.searching.search_k4.Goals as goal
 

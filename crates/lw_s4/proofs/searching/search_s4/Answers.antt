@@ -1,3 +1,4 @@
+use Rattle.std.proofs.Common.{true}
 use Rattle.lw_s4.proofs.HistoryRanking.{ranked}
 use Rattle.lw_s4.proofs.searching.search_s4.Goals as goal
 
