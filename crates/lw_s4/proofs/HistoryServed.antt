@@ -1,6 +1,6 @@
 -- What is in the history of a label is served.
 use Rattle.std.proofs.Common.{◌≡◌, ℕ, suc, ◌<◌, true, false, not, ◌&&◌, ◌||◌, nat_eq, List, [], ◌∷◌, ◌⊎◌, inl, inr, refl, sym, ap, subst, ◌∙◌, arith, eqb-true, eq-eqb}
-use Rattle.std.specs.List.{Contains, list_any}
+use Rattle.std.specs.List.{Contains}
 use Rattle.std.proofs.lemmas.Bool.{cases_Bool, cases_lt, or_cases, or_left, or_right, and_parts, and_from, both_ways, false≢true, not-true, not_from_false}
 use Rattle.std.proofs.lemmas.List.{get_or_past}
 use Rattle.lw_formula.specs.declared.logic.Logic.{Logic}
@@ -13,6 +13,7 @@ use Rattle.lw_closure.specs.Table.{Table, entry_at, item_count, IsTable}
 use Rattle.lw_closure.specs.Items.{items}
 use Rattle.lw_closure.proofs.ItemNumbers.{any_below-found}
 use Rattle.lw_counter.specs.FragmentPaths.{has_links}
+use Rattle.lw_sat.specs.Sets.{among}
 use Rattle.lw_search.specs.Ranked.{Past, LeadsTo, IsServedBy, StepsTo}
 use Rattle.lw_search.specs.Step.{seed}
 use Rattle.lw_s4.specs.History.{has_more_nus, history}
@@ -26,7 +27,7 @@ contains_later x y xs (k, l, e) = (suc k, omega arith, e)
 
 module _ (t : Table) where
   -- a step adds its component
-  component_added : (L : Logic) (item c : ℕ) → list_any (λ d. nat_eq d c) (added (items t) L item c) ≡ true
+  component_added : (L : Logic) (item c : ℕ) → among (added (items t) L item c) c ≡ true
   component_added K item c = or_left (nat_eq c c) false (eq-eqb c c refl)
   component_added KT item c = or_left (nat_eq c c) false (eq-eqb c c refl)
   component_added S4 item c = or_left (nat_eq c c) false (eq-eqb c c refl)
@@ -43,10 +44,10 @@ module _ (t : Table) where
 
   -- the seed of a step has its component, and all that the step keeps
   seed_component : (X : Set ℕ) (item c : ℕ) → seed t X item c c ≡ true
-  seed_component X item c = or_left (list_any (λ d. nat_eq d c) (added (items t) t.logic item c)) (kept (items t) t.logic X c) (component_added t.logic item c)
+  seed_component X item c = or_left (among (added (items t) t.logic item c) c) (kept (items t) t.logic X c) (component_added t.logic item c)
 
   seed_has : (X : Set ℕ) (item c : ℕ) → IsWithin (kept (items t) t.logic X) (seed t X item c)
-  seed_has X item c j e = or_right (list_any (λ d. nat_eq d j) (added (items t) t.logic item c)) (kept (items t) t.logic X j) e
+  seed_has X item c j e = or_right (among (added (items t) t.logic item c) j) (kept (items t) t.logic X j) e
 
   module _ (table : IsTable t) where
     -- a ν is an item

@@ -1,9 +1,9 @@
 -- What steps keep in the logics with links, S4 and K4: the ν, and with them all that is kept.
-use Rattle.std.proofs.Common.{◌≡◌, ℕ, true, ◌&&◌, ◌||◌, inl, inr, refl, ap, ◌∙◌}
+use Rattle.std.proofs.Common.{◌≡◌, ℕ, true, ◌&&◌, inl, inr, ap}
 use Rattle.std.proofs.lemmas.Bool.{or_cases, or_left, or_right, and_parts, and_from, false≢true}
 use Rattle.lw_formula.specs.declared.logic.Logic.{Logic}
 use Rattle.lw_formula.specs.declared.logic.Logic.TheVariants.{K, KT, S4, S5, GL, Grz, K4, KD}
-use Rattle.lw_proof.specs.System.{Set, IsWithin}
+use Rattle.lw_proof.specs.System.{Set}
 use Rattle.lw_proof.specs.Derivation.{is_nu, kept}
 use Rattle.lw_closure.specs.Table.{Table, entry_at, item_count}
 use Rattle.lw_closure.specs.Items.{is_nu_to, items}

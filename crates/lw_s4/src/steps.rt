@@ -3,8 +3,8 @@ ghost use Rattle.lw_s4.specs.Private.HistoryRank.{by_history, logic_of, square_o
 use lw_closure::Closure;
 use lw_search::StepRule;
 
-/// The steps of S4 where worlds see themselves, and else those of K4: to the component of a π, with the label's ν, in K4
-/// also with their components, where no link to a world that is there serves the π.
+/// The steps of S4 where worlds see themselves, and else those of K4: to the component of a π, with the label's ν, and
+/// in K4 with their components too, where no link to a world that is there serves the π.
 pub(crate) struct LinkedSteps<const REFLEXIVE: bool>;
 
 impl<const REFLEXIVE: bool> StepRule for LinkedSteps<REFLEXIVE> {
