@@ -7,7 +7,7 @@ use Rattle.lw_counter.specs.FragmentPaths.{has_links}
 use Rattle.lw_search.specs.Ranked.{Past, LeadsTo, IsServedBy}
 use Rattle.lw_s4.specs.History.{history}
 
--- in S4 and K4, where links count as edges, a link serves each π of the history of a label, to the label's own world or to a world of the path
+-- in S4 and K4, where links count as edges, a link to the label's own world or to one of the path serves each π of the label's history
 abbrev pub HistoryServes : Type 0
 HistoryServes =
     (t : Table) (path : List Past) (X : Set ℕ) (item c : ℕ) → IsTable t → IsTrue (has_links t.logic) → LeadsTo t path X →
