@@ -1,2 +1,3 @@
+pub mod KeptNus
 pub mod HistoryServed
-pub mod S4Ranking
+pub mod HistoryRanking

@@ -11,8 +11,8 @@ use Rattle.lw_search.specs.Ranked.{Past}
 abbrev pub has_more_nus : Table → Set ℕ → Set ℕ → Bool
 has_more_nus t X Y = any_below (λ i. is_nu (entry_at t i).parts && (X i && not (Y i))) (item_count t)
 
--- the history of the label X, to which the path leads: the π stepped on along the path since a label last had a ν that the one before lacks.
--- A step keeps the ν, so since then the labels have the same ones
+-- the history of the label X, to which the path leads: the π stepped on along the path since a label last had a ν that the one before
+-- lacks. A step keeps the ν, so since then the labels have the same ones
 abbrev pub history : Table → List Past → Set ℕ → Set ℕ
 history t [] X i = false
 history t (p ∷ path) X i = not (has_more_nus t X p.label) && (nat_eq p.item i || history t path p.label i)

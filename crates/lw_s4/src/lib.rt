@@ -1,4 +1,4 @@
-//! The search in S4: each step keeps the ν, and while none comes to them no π is stepped on twice.
+//! The search in S4 and K4: each step keeps the ν, and while none comes to them no π is stepped on twice.
 #![tactic(auto)]
 
 mod laws;
@@ -6,4 +6,4 @@ mod searching;
 mod steps;
 
 pub use laws::history_serves;
-pub use searching::search_s4;
+pub use searching::{search_k4, search_s4};

@@ -18,5 +18,15 @@ pub fn search_s4(alloc: Global, pool: &Pool, closure: &Closure) -> Result<Answer
     requires keeps { Keeps pool.now closure.now }
     ensures { IfOk result (IsAnswerTo Logic.S4 pool.now (tree_at pool.now closure.now.goal)) }
 {
-    search(alloc, pool, closure, &LinkedSteps)
+    search(alloc, pool, closure, &LinkedSteps::<true>)
+}
+
+/// A proof of the closure's goal in K4, or a model that refutes it. The closure is one that was made for K4, and the
+/// pool has kept its formulas. It fails for want of memory alone.
+pub fn search_k4(alloc: Global, pool: &Pool, closure: &Closure) -> Result<Answer, AllocError>
+    requires logic { closure.now.logic ≡ Logic.K4 }
+    requires keeps { Keeps pool.now closure.now }
+    ensures { IfOk result (IsAnswerTo Logic.K4 pool.now (tree_at pool.now closure.now.goal)) }
+{
+    search(alloc, pool, closure, &LinkedSteps::<false>)
 }

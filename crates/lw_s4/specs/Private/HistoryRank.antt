@@ -1,5 +1,7 @@
--- Why a search in S4 ends: a step goes to a label with a ν more, or else to one whose history has a π more.
-use Rattle.std.specs.Prelude.{ℕ, ◌+◌, ◌*◌, ◌^◌, Bool, not, ◌&&◌, nat_le, List}
+-- Why a search in S4 or K4 ends: a step goes to a label with a ν more, or else to one whose history has a π more.
+use Rattle.std.specs.Prelude.{ℕ, ◌+◌, ◌*◌, ◌^◌, Bool, true, false, not, ◌&&◌, nat_le, List}
+use Rattle.lw_formula.specs.declared.logic.Logic.{Logic}
+use Rattle.lw_formula.specs.declared.logic.Logic.TheVariants.{S4, K4}
 use Rattle.lw_formula.specs.Formula.{Formula}
 use Rattle.lw_proof.specs.System.{Set}
 use Rattle.lw_closure.specs.Table.{Table, item_count}
@@ -7,6 +9,11 @@ use Rattle.lw_search.specs.Private.LabelLack.{goal_modals, nus_lacked}
 use Rattle.lw_search.specs.Ranked.{Past, Ranking}
 use Rattle.lw_search.specs.Step.{askers, count_below, is_asker}
 use Rattle.lw_s4.specs.History.{history}
+
+-- S4 where worlds see themselves, and else K4
+abbrev pub logic_of : Bool → Logic
+logic_of true = S4
+logic_of false = K4
 
 -- whether the item is a π outside the label's history
 abbrev pub is_fresh : Table → List Past → Set ℕ → ℕ → Bool
