@@ -15,7 +15,7 @@ pub fn unfolded_proves()
     ensures { UnfoldedProves }
 {}
 
-/// In each of the six logics what has a shared proof is valid.
+/// In each of the eight logics what has a shared proof is valid.
 pub fn shared_is_valid()
     ensures { SharedIsValid }
 {}
