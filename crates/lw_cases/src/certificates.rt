@@ -17,13 +17,15 @@ use lw_proof::Proof;
 use std::alloc::{AllocError, Global};
 
 /// The logics, in the order in which each is named.
-pub const LOGICS: [Logic; 6] = [
+pub const LOGICS: [Logic; 8] = [
     Logic::K,
     Logic::KT,
     Logic::S4,
     Logic::S5,
     Logic::GL,
     Logic::Grz,
+    Logic::K4,
+    Logic::KD,
 ];
 
 // The certificate of the answer to the formula.

@@ -2,10 +2,10 @@
 use Rattle.std.proofs.Common.{◌≡◌, ℕ, ◌<◌, ◌≤◌, List, length, ◌↔◌, refl, sym, ◌∙◌, ap, subst, arith}
 use Rattle.std.proofs.lemmas.Option.{none-some}
 use Rattle.lw_formula.specs.declared.logic.Logic.{Logic}
-use Rattle.lw_formula.specs.declared.logic.Logic.TheVariants.{K, KT, S4, S5, GL, Grz}
+use Rattle.lw_formula.specs.declared.logic.Logic.TheVariants.{K, KT, S4, S5, GL, Grz, K4, KD}
 use Rattle.lw_formula.specs.Formula.{Formula}
 use Rattle.lw_formula.specs.FiniteModel.{FiniteModel, Sees, HasFact}
-use Rattle.lw_formula.specs.Class.{HasFrame}
+use Rattle.lw_formula.specs.Class.{HasFrame, IsSerial}
 use Rattle.lw_formula.specs.Validity.{Refutes}
 use Rattle.lw_formula.specs.Laws.{TruthDependsOnVariables}
 use Rattle.lw_formula.specs.Signed.{Signed}
@@ -56,6 +56,9 @@ module _ (m n : FiniteModel) (worlds : m.worlds ≡ n.worlds) (same : (v w : ℕ
   antisymmetric : ((v w : ℕ) → Sees m v w → Sees m w v → v ≡ w) → (v w : ℕ) → Sees n v w → Sees n w v → v ≡ w
   antisymmetric is v w sees back = is v w ((same v w).1 sees) ((same w v).1 back)
 
+  serial : IsSerial m → IsSerial n
+  serial is w within = let (v, sees) = is w (subst (λ k. w < k) (sym worlds) within) in (v, (same w v).0 sees)
+
   same_frame : (l : Logic) → HasFrame l m → HasFrame l n
   same_frame K frame = tt
   same_frame KT frame = reflexive frame
@@ -63,6 +66,8 @@ module _ (m n : FiniteModel) (worlds : m.worlds ≡ n.worlds) (same : (v w : ℕ
   same_frame S5 frame = (reflexive frame.0, symmetric frame.1, transitive frame.2)
   same_frame GL frame = (transitive frame.0, λ w sees. frame.1 w ((same w w).1 sees))
   same_frame Grz frame = (reflexive frame.0, transitive frame.1, antisymmetric frame.2)
+  same_frame K4 frame = transitive frame
+  same_frame KD frame = serial frame
 
 -- the one refutes what the other does
 same_refutes : TruthDependsOnVariables → (l : Logic) (a : Formula) (rows : List Row) (m n : FiniteModel) (w v : ℕ) → v ≡ w → m.worlds ≡ length rows → AreRowsOf m rows

@@ -1,4 +1,4 @@
--- Saturated sets (downward saturated sets; Smullyan, First-Order Logic, chapter II): no rule but Step and Cut has anything left to do.
+-- Saturated sets (downward saturated sets; Smullyan, First-Order Logic, chapter II): no rule but Step, Serial and Cut has anything left to do.
 use Rattle.std.specs.Prelude.{ℕ, ◌⊎◌, IsTrue, ⊤}
 use Rattle.lw_formula.specs.declared.logic.Logic.{Logic}
 use Rattle.lw_formula.specs.declared.parts.Parts.{Parts}

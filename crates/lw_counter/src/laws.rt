@@ -1,7 +1,7 @@
 //! Laws of fragments. Each function does nothing: its clause is the law, which is proved.
 ghost use Rattle.lw_counter.specs.Laws.{OpenFragmentsAreModels, OpenItemsAreOpenFormulas, OpenItemsMakeCountermodels};
 
-/// In each of the six logics the model of an open fragment is of the logic's class, and every label holds at its world.
+/// In each of the eight logics the model of an open fragment is of the logic's class, and every label holds at its world.
 pub fn open_fragments_are_models()
     ensures { OpenFragmentsAreModels }
 {}

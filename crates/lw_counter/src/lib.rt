@@ -1,4 +1,4 @@
-//! From an open fragment to a countermodel, for all six logics.
+//! From an open fragment to a countermodel, for all eight logics.
 #![tactic(auto)]
 
 mod answer;

@@ -14,7 +14,7 @@ use lw_gl::search_gl;
 use lw_grz::search_grz;
 use lw_k::search_k;
 use lw_pool::{FormId, Pool};
-use lw_s4::search_s4;
+use lw_s4::{search_k4, search_s4};
 use lw_s5::search_s5;
 use std::alloc::{AllocError, Global};
 
@@ -44,8 +44,9 @@ fn searched(alloc: Global, pool: &Pool, table: &Closure, logic: Logic) -> Result
     ensures { IfOk result (IsAnswerTo logic pool.now (tree_at pool.now table.now.goal)) }
 {
     match logic {
-        Logic::K | Logic::KT => search_k(alloc, pool, table, logic),
+        Logic::K | Logic::KT | Logic::KD => search_k(alloc, pool, table, logic),
         Logic::S4 => search_s4(alloc, pool, table),
+        Logic::K4 => search_k4(alloc, pool, table),
         Logic::S5 => search_s5(alloc, pool, table),
         Logic::GL => search_gl(alloc, pool, table),
         Logic::Grz => search_grz(alloc, pool, table),

@@ -6,7 +6,7 @@ pub fn truths_agree()
     ensures { TruthsAgree }
 {}
 
-/// In none of the six logics is `false` valid: each has a model.
+/// In none of the eight logics is `false` valid: each has a model.
 pub fn no_logic_is_empty()
     ensures { NoLogicIsEmpty }
 {}

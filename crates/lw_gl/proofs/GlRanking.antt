@@ -8,7 +8,7 @@ use Rattle.lw_formula.specs.Formula.{Formula, nec, poss}
 use Rattle.lw_formula.specs.Signed.{Signed, flip}
 use Rattle.lw_formula.specs.Components.{parts_of}
 use Rattle.lw_proof.specs.System.{Set}
-use Rattle.lw_proof.specs.Derivation.{added, is_nu, kept, plus}
+use Rattle.lw_proof.specs.Derivation.{added, has_serial, is_nu, kept, plus}
 use Rattle.lw_closure.specs.Mapping.{map_parts}
 use Rattle.lw_closure.specs.Table.{Table, entry_at, flip_item, item_count, signed_of}
 use Rattle.lw_closure.specs.Items.{items}
@@ -20,6 +20,7 @@ use Rattle.lw_sat.specs.Sets.{among, adding}
 use Rattle.lw_search.specs.Ranked.{IsFor, IsRanked}
 use Rattle.lw_search.specs.Step.{seed}
 use Rattle.lw_search.proofs.ItemCounts.{few_nus, pi_asks}
+use Rattle.lw_search.proofs.StepSeeds.{steps_pi}
 use Rattle.lw_search.specs.Private.LabelLack.{goal_modals, lacks_nu, nus_lacked}
 use Rattle.lw_search.proofs.StricterTests.{nus_lacked-less, nus_lacked-within}
 use Rattle.lw_gl.specs.Private.LackedNus.{by_lacking}
@@ -76,9 +77,10 @@ ranked = record {
       let below = asks.items item asks.there in
       let few : nus_lacked t X ≤ n = leb-true (nus_lacked t X) n e in
       let out = false_from_ne_true (X (flip_item item)) (asks.unclosed.consistent item asks.there) in
-      let less : nus_lacked t (seed t X item c) < nus_lacked t X = fewer ts t made X item c below asks.parts out in (
+      let pi = steps_pi t item c (ap has_serial made.logic) asks.steps in
+      let less : nus_lacked t (seed t X item c) < nus_lacked t X = fewer ts t made X item c below pi out in (
         omega arith,
-        pi_asks t item c (ap has_guards made.logic) asks.parts,
+        pi_asks t item c (ap has_guards made.logic),
         le-leb (nus_lacked t (seed t X item c)) (n - 1) (omega arith),
       );
 }

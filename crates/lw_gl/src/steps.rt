@@ -19,6 +19,10 @@ impl StepRule for DiagonalSteps {
         false
     }
 
+    fn is_serial(&self) -> bool {
+        false
+    }
+
     fn has_links(&self) -> bool {
         false
     }

@@ -9,7 +9,7 @@ use Rattle.lw_formula.specs.Signed.{Signed}
 use Rattle.lw_formula.proofs.SubformulaLists.{IsSubformula-refl}
 use Rattle.lw_pool.specs.Region.{tree_at}
 use Rattle.lw_proof.specs.System.{Set}
-use Rattle.lw_proof.specs.Derivation.{added, has_refl, is_nu, is_pi, kept, plus}
+use Rattle.lw_proof.specs.Derivation.{added, has_refl, has_serial, is_nu, is_pi, kept, plus}
 use Rattle.lw_closure.specs.Table.{Table, entry_at, item_count, signed_of}
 use Rattle.lw_closure.specs.Items.{items}
 use Rattle.lw_closure.specs.Keeps.{has_guards}
@@ -20,6 +20,7 @@ use Rattle.lw_search.specs.Private.LabelLack.{goal_modals}
 use Rattle.lw_search.specs.Ranked.{IsFor, IsGoal, IsRanked}
 use Rattle.lw_search.specs.Step.{askers, is_asker, seed}
 use Rattle.lw_search.proofs.ItemCounts.{few_askers}
+use Rattle.lw_search.proofs.StepSeeds.{steps_pi}
 use Rattle.lw_search.proofs.StricterTests.{count_below-within, count_below-less}
 use Rattle.lw_grz.specs.Private.LackedGuards.{by_guards, guards_lacked, is_guarded, is_in, lacks_guard}
 use Rattle.lw_grz.proofs.GuardedPis.{found_guard, guarded_to, guarded_from, own_asks, guard_item, side_asks, component_asks, guard_out}
@@ -130,14 +131,15 @@ ranked = record {
       let both = and_parts (nat_le (guards_lacked t X) n) (is_guarded t X) e in
       let few : guards_lacked t X ≤ n = leb-true (guards_lacked t X) n both.0 in
       let below = asks.items item asks.there in
-      let asker : is_asker t item ≡ true = guarded_to t X both.1 item below asks.there (ap is_pi asks.parts) in
+      let pi = steps_pi t item c (ap has_serial made.logic) asks.steps in
+      let asker : is_asker t item ≡ true = guarded_to t X both.1 item below asks.there (ap is_pi pi) in
       let guard = asker_guard t item made.logic asker in
       let out : X guard.0 ≡ false =
-      guard_out ts t made.keeps made.logic X asks.items asks.unclosed item c guard.0 asks.there asks.parts guard.1 (asks.alone (ap has_refl made.logic)) in
+      guard_out ts t made.keeps made.logic X asks.items asks.unclosed item c guard.0 asks.there pi guard.1 (asks.alone (ap has_refl made.logic)) in
       let less : guards_lacked t (seed t X item c) < guards_lacked t X = seed_less ts t made X item c guard.0 guard.1 below asker out in (
         omega arith,
-        asker,
+        (λ _. asker),
         and_from (nat_le (guards_lacked t (seed t X item c)) (n - 1)) (is_guarded t (seed t X item c))
-            (le-leb (guards_lacked t (seed t X item c)) (n - 1) (omega arith)) (seed_guarded ts t made X item c guard.0 guard.1 below asks.parts),
+            (le-leb (guards_lacked t (seed t X item c)) (n - 1) (omega arith)) (seed_guarded ts t made X item c guard.0 guard.1 below pi),
       );
 }

@@ -1,4 +1,4 @@
-//! The search in K and KT: each step goes to formulas of a smaller modal depth.
+//! The search in K, KT and KD: each step goes to formulas of a smaller modal depth.
 #![tactic(auto)]
 
 mod searching;

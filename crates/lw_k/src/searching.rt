@@ -12,7 +12,7 @@ use lw_pool::Pool;
 use lw_search::search;
 use std::alloc::{AllocError, Global};
 
-/// A proof of the closure's goal in K or KT, or a model that refutes it. The closure is one that was made for the
+/// A proof of the closure's goal in K, KT or KD, or a model that refutes it. The closure is one that was made for the
 /// logic, and the pool has kept its formulas. It fails for want of memory alone.
 pub fn search_k(
     alloc: Global,
@@ -20,27 +20,28 @@ pub fn search_k(
     closure: &Closure,
     logic: Logic,
 ) -> Result<Answer, AllocError>
-    requires built { (logic ≡ Logic.K) ⊎ (logic ≡ Logic.KT) }
+    requires built { (logic ≡ Logic.K) ⊎ (logic ≡ Logic.KT) ⊎ (logic ≡ Logic.KD) }
     requires logic { closure.now.logic ≡ logic }
     requires keeps { Keeps pool.now closure.now }
     ensures { IfOk result (IsAnswerTo logic pool.now (tree_at pool.now closure.now.goal)) }
 {
     match logic {
-        Logic::K => search_by::<false>(alloc, pool, closure),
-        Logic::KT => search_by::<true>(alloc, pool, closure),
-        Logic::S4 | Logic::S5 | Logic::GL | Logic::Grz => unreachable!(),
+        Logic::K => search_by::<false, false>(alloc, pool, closure),
+        Logic::KT => search_by::<true, false>(alloc, pool, closure),
+        Logic::KD => search_by::<false, true>(alloc, pool, closure),
+        Logic::S4 | Logic::S5 | Logic::GL | Logic::Grz | Logic::K4 => unreachable!(),
     }
 }
 
-/// The search in KT, whose worlds are reflexive, or else in K.
-fn search_by<const REFLEXIVE: bool>(
+/// The search in KT, whose worlds see themselves, else in KD, each of whose worlds sees one, or else in K.
+fn search_by<const REFLEXIVE: bool, const SERIAL: bool>(
     alloc: Global,
     pool: &Pool,
     closure: &Closure,
 ) -> Result<Answer, AllocError>
-    requires logic { closure.now.logic ≡ logic_of REFLEXIVE }
+    requires logic { closure.now.logic ≡ logic_of REFLEXIVE SERIAL }
     requires keeps { Keeps pool.now closure.now }
-    ensures { IfOk result (IsAnswerTo (logic_of REFLEXIVE) pool.now (tree_at pool.now closure.now.goal)) }
+    ensures { IfOk result (IsAnswerTo (logic_of REFLEXIVE SERIAL) pool.now (tree_at pool.now closure.now.goal)) }
 {
-    search(alloc, pool, closure, &Steps::<REFLEXIVE>)
+    search(alloc, pool, closure, &Steps::<REFLEXIVE, SERIAL>)
 }

@@ -3,12 +3,12 @@ ghost use Rattle.lw_k.specs.Private.DepthLeft.{by_depth, goal_depth, logic_of};
 use lw_closure::Closure;
 use lw_search::StepRule;
 
-/// The steps of KT where worlds see themselves, and else those of K: to the component of a π, with the components of
-/// the label's ν.
-pub(crate) struct Steps<const REFLEXIVE: bool>;
+/// The steps of KT where worlds see themselves, else those of KD where each world sees one, and else those of K: to the
+/// component of a π, or in KD of a ν, with the components of the label's ν.
+pub(crate) struct Steps<const REFLEXIVE: bool, const SERIAL: bool>;
 
-impl<const REFLEXIVE: bool> StepRule for Steps<REFLEXIVE> {
-    ghost logic = { logic_of REFLEXIVE };
+impl<const REFLEXIVE: bool, const SERIAL: bool> StepRule for Steps<REFLEXIVE, SERIAL> {
+    ghost logic = { logic_of REFLEXIVE SERIAL };
 
     ghost suffice = { by_depth };
 
@@ -16,6 +16,10 @@ impl<const REFLEXIVE: bool> StepRule for Steps<REFLEXIVE> {
 
     fn is_reflexive(&self) -> bool {
         REFLEXIVE
+    }
+
+    fn is_serial(&self) -> bool {
+        !REFLEXIVE && SERIAL
     }
 
     fn has_links(&self) -> bool {

@@ -1,4 +1,4 @@
-//! Finite Kripke models, the classes of the six logics, and truth of a pool's formulas at their worlds.
+//! Finite Kripke models, the classes of the eight logics, and truth of a pool's formulas at their worlds.
 #![tactic(auto)]
 
 mod class;

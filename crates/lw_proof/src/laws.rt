@@ -1,6 +1,6 @@
 ghost use Rattle.lw_proof.specs.Laws.{EqualSetsAreClosedAlike, FirstBreakIsExact, LargerSetsAreClosed, ProvedIsValid};
 
-/// In each of the six logics what has a proof is valid.
+/// In each of the eight logics what has a proof is valid.
 pub fn soundness()
     ensures { ProvedIsValid }
 {}

@@ -7,7 +7,7 @@ use Rattle.lw_proof.specs.Lean.{Grows}
 use Rattle.lw_closure.specs.Table.{Table, item_count, item_at}
 use Rattle.lw_closure.specs.Items.{items, ItemDerives}
 
--- the proof, read with the numbers of its principals, closes the set of items, and each premise of a rule other than Step has something new
+-- the proof, read with the numbers of its principals, closes the set of items, and each premise of a rule other than Step and Serial has something new
 pub record Closes (t : Table) (X : Set ℕ) (p : Tree SignedId) : Type 0 where
   pub tree : Tree ℕ
   pub named : map_tree (item_at t) tree ≡ p

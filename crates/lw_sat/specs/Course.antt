@@ -85,7 +85,7 @@ state_steps frames _ = most_steps frames
 abbrev pub steps_held : Saturation → ℕ
 steps_held s = state_steps s.frames.items s.state
 
--- the unclosed label that waits: it has the seed, nothing but Step and Cut is left to do, and the test holds of it
+-- the unclosed label that waits: it has the seed, nothing but Step, Serial and Cut is left to do, and the test holds of it
 pub record IsUnclosedFrom (t : Table) (X : Set ℕ) (test : Set ℕ → Bool) (s : Saturation) : Type 0 where
   pub waits : IsTrue (waits s)
   pub under : IsUnderWay t X test s

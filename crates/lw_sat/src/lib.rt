@@ -1,4 +1,4 @@
-//! The saturation of labels by all rules but Step, by Smullyan's signed tableau (First-Order Logic, chapter II): the
+//! The saturation of labels by all rules but Step and Serial, by Smullyan's signed tableau (First-Order Logic, chapter II): the
 //! unclosed labels that come of a seed, one after another, until all are refused and a proof closes the seed.
 #![tactic(auto)]
 

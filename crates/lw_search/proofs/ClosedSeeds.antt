@@ -1,13 +1,14 @@
 -- From a closed seed to the label below it.
-use Rattle.std.proofs.Common.{◌≡◌, ℕ, suc, ◌+◌, ◌-◌, ◌*◌, ◌<◌, ◌≤◌, max, Option, Some, None, Result, Ok, Err, IfOk, OnOk, List, [], ◌∷◌, ◌++◌, length, sym, ap, subst, ◌∙◌, arith}
+use Rattle.std.proofs.Common.{◌≡◌, ℕ, suc, ◌+◌, ◌-◌, ◌*◌, ◌<◌, ◌≤◌, Bool, true, false, cond, max, Option, Some, None, Result, Ok, Err, IfOk, OnOk, List, [], ◌∷◌, ◌++◌, length, sym, ap, subst, ◌∙◌, arith}
 use Rattle.std.specs.Option.{IfNone}
 use Rattle.std.proofs.Math.Nat.{mul-le-mul_right}
 use Rattle.lw_pool.specs.declared.id.SignedId.{SignedId}
 use Rattle.lw_proof.specs.declared.rule.Rule.{Rule}
 use Rattle.lw_proof.specs.System.{Set}
 use Rattle.lw_proof.specs.Tree.{Tree, node, none, more}
-use Rattle.lw_proof.specs.Lean.{steps}
-use Rattle.lw_closure.specs.Table.{Table, item_at, item_count}
+use Rattle.lw_proof.specs.Derivation.{is_nu}
+use Rattle.lw_proof.specs.Lean.{own_steps, steps}
+use Rattle.lw_closure.specs.Table.{Table, entry_at, item_at, item_count}
 use Rattle.lw_counter.specs.Fragment.{cut_to}
 use Rattle.lw_sat.specs.declared.board.Board.{Board}
 use Rattle.lw_sat.specs.Closing.{Closes, Rests}
@@ -20,31 +21,39 @@ use Rattle.lw_sat.proofs.UsedItems.{rests_as}
 use Rattle.lw_search.specs.declared.level.Level.{Level}
 use Rattle.lw_search.specs.declared.level.Search.{Search}
 use Rattle.lw_search.specs.Private.SearchLevels.{Aim, IsFallen, IsUnderWork, Nested, Place, Stands, Waits, child_room, fallen_room, held_room, label, start, unit, waiting_room, work_room}
-use Rattle.lw_search.specs.Private.StepUse.{used_step}
+use Rattle.lw_search.specs.Private.StepUse.{step_rule, used_step}
 use Rattle.lw_search.specs.Private.SearchTurns.{ClosesStep, FallFits, ReopensOrCloses}
 use Rattle.lw_search.proofs.SearchSums.{unit_is}
 use Rattle.lw_search.proofs.WaitingLevels.{held_on, nested_off}
 use Rattle.lw_search.proofs.StepSeeds.{rests_step}
 use Rattle.lw_search.proofs.NextStates.{label_items}
 
--- the label of a level that waits is closed by a Step
+-- the rule of a step counts for one Step at most
+one_step : (t : Table) (item : ℕ) → own_steps (step_rule t item) ≤ 1
+one_step t item = by (is_nu (entry_at t item).parts) where
+  by : (b : Bool) → own_steps (cond b Rule.Serial Rule.Step) ≤ 1
+  by true = omega arith
+  by false = omega arith
+
+-- the label of a level that waits is closed by a step
 module _ (t : Table) (aim : Aim) (a b : Place) (l : Level) (u : Board) (p : Tree SignedId) (h : ClosesStep t aim a l b u p) where
   abbrev w : Waits t aim a l b
   w = h.waits
 
-  step_rests : Rests t (used_step t (label l) l.item w.inner (top u.labels)) (label l) (node Rule.Step (item_at t l.item) (more p none))
+  step_rests : Rests t (used_step t (label l) l.item w.inner (top u.labels)) (label l) (node (step_rule t l.item) (item_at t l.item) (more p none))
   step_rests =
-      rests_step t h.guides.table h.guides.uncut (label l) (label_items t a.seed (aim.rank a.path a.left) l w.serves.at) l.item w.inner (top u.labels) p (w.asks.items l.item w.asks.there) w.asks.there w.asks.parts
+      rests_step t h.guides.table h.guides.uncut (label l) (label_items t a.seed (aim.rank a.path a.left) l w.serves.at) l.item w.inner (top u.labels) p (w.asks.items l.item w.asks.there) w.asks.there w.asks.steps
       (subst (λ (X : Set ℕ). Rests t (top u.labels) X p) (ap (λ (x : Place). x.seed) w.next) h.closed.rests)
 
-  pub steps_left : steps p ≤ b.left → (q : Tree SignedId) → q ≡ node Rule.Step (item_at t l.item) (more p none) → steps q ≤ a.left
+  pub steps_left : steps p ≤ b.left → (q : Tree SignedId) → q ≡ node (step_rule t l.item) (item_at t l.item) (more p none) → steps q ≤ a.left
   steps_left few q e =
       let left = ap (λ (x : Place). x.left) w.next in
       let falls = h.guides.falls a.path a.left (label l) l.item w.inner l.world w.serves.at.passes w.asks in
       let same = ap steps e in
-      omega (arith, falls.0, left, same)
+      let own = one_step t l.item in
+      omega (arith, falls.0, left, same, own)
 
-  module _ (m : Board) (q : Tree SignedId) (becomes : Becomes l.board m (record (spot_of l.board) { set = used_step t (label l) l.item w.inner (top u.labels) })) (e : q ≡ node Rule.Step (item_at t l.item) (more p none)) where
+  module _ (m : Board) (q : Tree SignedId) (becomes : Becomes l.board m (record (spot_of l.board) { set = used_step t (label l) l.item w.inner (top u.labels) })) (e : q ≡ node (step_rule t l.item) (item_at t l.item) (more p none)) where
     pub step_closes : IsClosing t a.seed (aim.rank a.path a.left) l.frames.items m q
     step_closes = record {
       wide = (let wide = w.serves.at.wide in let bits = becomes.bits in omega arith);
@@ -54,7 +63,7 @@ module _ (t : Table) (aim : Aim) (a b : Place) (l : Level) (u : Board) (p : Tree
       closed = record {
         below = lower_of l.board m _ becomes;
         kept = kept_of l.board m _ becomes;
-        rests = rests_as t (top m.labels) (used_step t (label l) l.item w.inner (top u.labels)) (label l) q (node Rule.Step (item_at t l.item) (more p none)) (set_of l.board m _ becomes) e step_rests;
+        rests = rests_as t (top m.labels) (used_step t (label l) l.item w.inner (top u.labels)) (label l) q (node (step_rule t l.item) (item_at t l.item) (more p none)) (set_of l.board m _ becomes) e step_rests;
       };
     }
 

@@ -6,7 +6,7 @@ use Rattle.std.proofs.lemmas.Bool.{false≢true, or_left}
 use Rattle.std.proofs.lemmas.Bool.Decides.{Decides-eqb}
 use Rattle.std.proofs.lemmas.List.Elements.{All-contains}
 use Rattle.lw_formula.specs.declared.logic.Logic.{Logic}
-use Rattle.lw_formula.specs.declared.logic.Logic.TheVariants.{K, KT, S4, S5, GL, Grz}
+use Rattle.lw_formula.specs.declared.logic.Logic.TheVariants.{K, KT, S4, S5, GL, Grz, K4, KD}
 use Rattle.lw_formula.specs.declared.sign.Sign.TheVariants.{T, F}
 use Rattle.lw_formula.specs.Formula.{Formula, letter, neg, conj, impl, nec, poss, depth, modal_count}
 use Rattle.lw_formula.specs.FiniteModel.{FiniteModel, Sees}
@@ -80,6 +80,8 @@ related_down K f n h none w v r other apart = edge_down K f n h none w v r
 related_down KT f n h none w v r other apart = elim r [ inl same ↦ absurd (other same) | inr e ↦ edge_down KT f n h none w v e ]
 related_down S4 f n h none w v r other apart = absurd (false≢true (sym none))
 related_down S5 f n h none w v r other apart = absurd (apart refl)
+related_down K4 f n h none w v r other apart = absurd (false≢true (sym none))
+related_down KD f n h none w v r other apart = elim r [ inl e ↦ edge_down KD f n h none w v e | inr alone ↦ absurd (other alone.0) ]
 related_down GL f n h none w v r other apart = path_down GL f n h none w v r
 related_down Grz f n h none w v r other apart = elim r [ inl same ↦ absurd (other same) | inr p ↦ path_down Grz f n h none w v p ]
 
@@ -132,6 +134,8 @@ module _ (ts : List Formula) (t : Table) (keeps : Keeps ts t) (n : ℕ) (X : Set
     chains_within S4 q = tt
     chains_within S5 q = tt
     chains_within GL q = chains_short m e.heights.height n (modal_count goal) (steps_down (ap has_links q) (λ p. cc)) (subst (λ L. n ≤ step_bound L (modal_count goal) (depth goal)) q few)
+    chains_within K4 q = tt
+    chains_within KD q = chains_short m e.heights.height n (depth goal) (steps_down (ap has_links q) (λ p. cc)) (subst (λ L. n ≤ step_bound L (modal_count goal) (depth goal)) q few) 0
     chains_within Grz q = chains_short m e.heights.height n (modal_count goal) (steps_down (ap has_links q) (λ p. cc)) (subst (λ L. n ≤ step_bound L (modal_count goal) (depth goal)) q few)
 
     -- the model refutes the goal, within the bounds on worlds, facts and chains

@@ -1,14 +1,17 @@
 -- How a fragment that is open but for what waits on the path grows.
-use Rattle.std.proofs.Common.{◌≡◌, ℕ, ◌+◌, ◌<◌, ◌≤◌, true, cond, eqb, Some, None, List, [], ◌∷◌, length, zero, suc, ◌⊎◌, inl, inr, refl, sym, ap, subst, ◌∙◌, arith}
+use Rattle.std.proofs.Common.{◌≡◌, ℕ, ◌+◌, ◌<◌, ◌≤◌, true, ◌&&◌, ◌||◌, cond, eqb, nat_lt, Some, None, List, [], ◌∷◌, length, zero, suc, ◌⊎◌, inl, inr, refl, sym, ap, subst, ◌∙◌, arith}
 use Rattle.std.specs.List.{All, Contains}
-use Rattle.std.proofs.lemmas.Bool.{cases_lt, cond-true, cond-false, eq-eqb, ne_eqb}
+use Rattle.std.proofs.lemmas.Bool.{and_parts, cases_lt, cond-true, cond-false, eq-eqb, eqb-true, false≢true, ltb-true, ne_eqb, or_cases}
 use Rattle.std.proofs.lemmas.List.Elements.{All-nil, All-push, All-weaker, Contains-append_left, Contains-push, Contains-push_cases, All-contains}
+use Rattle.lw_formula.specs.declared.logic.Logic.{Logic}
 use Rattle.lw_formula.specs.declared.parts.Parts.TheVariants.{Pi}
 use Rattle.lw_proof.specs.System.{Set, IsWithin}
-use Rattle.lw_proof.specs.Derivation.{kept}
+use Rattle.lw_proof.specs.Derivation.{has_cut, has_refl, has_serial, is_nu, is_pi, kept}
 use Rattle.lw_closure.specs.Table.{Table, entry_at, item_count}
 use Rattle.lw_closure.specs.Items.{items}
 use Rattle.lw_closure.specs.Unclosed.{IsUnclosedLabel}
+use Rattle.lw_closure.proofs.ItemNumbers.{any_below_cases}
+use Rattle.lw_closure.proofs.OwnPis.{nu_no_pi}
 use Rattle.lw_counter.specs.Fragment.{Fragment, world_at, items_of, with_world, with_link}
 use Rattle.lw_counter.specs.Open.{HasWitness, IsOffered}
 use Rattle.lw_counter.specs.FragmentPaths.{IsEdge}
@@ -18,7 +21,9 @@ use Rattle.lw_counter.proofs.FragmentChanges.{length_with, new_items, new_parent
 use Rattle.lw_sat.specs.Sets.{among}
 use Rattle.lw_sat.proofs.SaturationCourse.{among_all}
 use Rattle.lw_search.specs.Ranked.{Past, IsServedBy}
-use Rattle.lw_search.specs.Private.SearchWorlds.{last_world, IsOnWay, IsSound, IsWaiting}
+use Rattle.lw_search.specs.Private.SearchWorlds.{last_world, IsOnWay, IsSound, IsWaiting, LeadsOn, NuWaits}
+use Rattle.lw_search.specs.Private.StepAskers.{goes_before, others_ask}
+use Rattle.lw_search.proofs.FewAskers.{pi_with, serial_alone}
 
 -- nothing has been found yet
 pub sound_start : (t : Table) (n : ℕ) (X : Set ℕ) → IsSound t n X [] (record { worlds = []; links = [] })
@@ -28,6 +33,7 @@ sound_start t n X = record {
   unclosed = λ w l. absurd (omega arith);
   flows = λ w v e. elim e [ inl p ↦ absurd (none w p) | inr q ↦ absurd (omega (arith, q.1.1)) ];
   served = λ w s c l. absurd (omega arith);
+  serial = λ serial w s l. absurd (omega arith);
   root = λ l. absurd (omega arith);
   heights = record { height = λ w. 0; low = λ w l. absurd (omega arith); falls = λ w v l. absurd (omega arith) };
   way = tt;
@@ -40,6 +46,18 @@ pub on_way : (n : ℕ) (height : ℕ → ℕ) (f : Fragment) (path : List Past) 
 on_way n height f [] h p (k, l, e) = absurd (omega arith)
 on_way n height f (q ∷ path) h p (zero, l, e) = subst (λ (r : Past). (r.world < length f.worlds) × (items_of f r.world ≡ r.label)) e (h.0, h.1)
 on_way n height f (q ∷ path) h p (suc k, l, e) = on_way n height f path h.4 p (k, omega arith, e)
+
+-- in the serial logic a witness stands where an edge leads
+pub witness_leads : (L : Logic) (f : Fragment) (label : ℕ → Set ℕ) (w c : ℕ) → has_serial L ≡ true → HasWitness L f label w c → LeadsOn L f w
+witness_leads L f label w c serial (inl own) = absurd (false≢true (sym (serial_alone L serial).0 ∙ own.0))
+witness_leads L f label w c serial (inr (v, inl edge, there)) = (v, edge)
+witness_leads L f label w c serial (inr (v, inr cut, there)) = absurd (false≢true (sym (serial_alone L serial).1 ∙ cut.0))
+
+-- an item waits where one before it does
+waiting_more : (path : List Past) (w i j : ℕ) → i ≤ j → IsWaiting path w i → IsWaiting path w j
+waiting_more [] w i j l q = absurd q
+waiting_more (p ∷ path) w i j l (inl q) = inl (q.0, omega (arith, q.1))
+waiting_more (p ∷ path) w i j l (inr q) = inr (waiting_more path w i j l q)
 
 -- one world more, behind the others, on the path
 module _ (t : Table) (n : ℕ) (X : Set ℕ) (path : List Past) (f : Fragment) (ls : List ℕ) (h : IsSound t n X path f) where
@@ -122,6 +140,23 @@ module _ (t : Table) (n : ℕ) (X : Set ℕ) (path : List Past) (f : Fragment) (
           | inr new ↦ inr (inl (sym new, omega arith))
         ]
 
+    leads_still : (w : ℕ) → LeadsOn t.logic f w → LeadsOn t.logic g w
+    leads_still w (v, inl e) = (v, inl (old_parent f (last_world path) ls v (child_within f v w e) ∙ e))
+    leads_still w (v, inr e) = (v, inr e)
+
+    nu_waits_on : (w s : ℕ) → w < length f.worlds → NuWaits t path f w s → NuWaits t ((record { world = length f.worlds; label = among ls; item = 0 }) ∷ path) g w s
+    nu_waits_on w s l (inl q) = inl (inr q)
+    nu_waits_on w s l (inr (i, there, pi, q)) = inr (i, subst (λ (Y : Set ℕ). Y i ≡ true) (sym (old_items f (last_world path) ls w l)) there, pi, inr q)
+
+    serial_on :
+        has_serial t.logic ≡ true → (w s : ℕ) → w < length g.worlds → is_nu (entry_at t s).parts ≡ true → items_of g w s ≡ true →
+        LeadsOn t.logic g w ⊎ NuWaits t ((record { world = length f.worlds; label = among ls; item = 0 }) ∷ path) g w s
+    serial_on serial w s l nu there =
+        elim (world_cases f (last_world path) ls w l) [
+          | inl old ↦ elim (h.serial serial w s old nu (subst (λ (Y : Set ℕ). Y s ≡ true) (old_items f (last_world path) ls w old) there)) [ inl q ↦ inl (leads_still w q) | inr q ↦ inr (nu_waits_on w s old q) ]
+          | inr new ↦ inr (inl (inl (sym new, omega arith)))
+        ]
+
     low_on : (w : ℕ) → w < length g.worlds → height_on w ≤ n
     low_on w l =
         elim (world_cases f (last_world path) ls w l) [
@@ -177,6 +212,7 @@ module _ (t : Table) (n : ℕ) (X : Set ℕ) (path : List Past) (f : Fragment) (
       ];
       flows = flows_on;
       served = served_on;
+      serial = serial_on;
       root = root_on;
       heights = record { height = height_on; low = low_on; falls = falls_on };
       way = (omega (arith, length_with f (last_world path) ls), new_items f (last_world path) ls, new_parent f (last_world path) ls, (let same = height_new (length f.worlds) refl in omega (arith, same, high)), way_old path h.way);
@@ -208,6 +244,9 @@ module _ (t : Table) (n : ℕ) (X Y : Set ℕ) (path : List Past) (f : Fragment)
             (subst (λ Z. IsWithin (kept (items t) t.logic Z) (items_of f v)) (sym h.way.1) serves.2)))
       ]
 
+  leads_linked : (a : ℕ) → LeadsOn t.logic f a → LeadsOn t.logic linked_on a
+  leads_linked a (b, e) = (b, edge_on a b e)
+
   way_linked : (height : ℕ → ℕ) (ps : List Past) → IsOnWay n height f ps → IsOnWay n height linked_on ps
   way_linked height [] way = tt
   way_linked height (p ∷ ps) way = (way.0, way.1, way.2, way.3, way_linked height ps way.4)
@@ -219,6 +258,7 @@ module _ (t : Table) (n : ℕ) (X Y : Set ℕ) (path : List Past) (f : Fragment)
     unclosed = h.unclosed;
     flows = flows_linked;
     served = λ a s x l there e. elim (h.served a s x l there e) [ inl q ↦ inl (witness_linked a x q) | inr q ↦ inr q ];
+    serial = λ serial a s l nu there. elim (h.serial serial a s l nu there) [ inl q ↦ inl (leads_linked a q) | inr q ↦ inr q ];
     root = h.root;
     heights = record { height = h.heights.height; low = h.heights.low; falls = h.heights.falls };
     way = way_linked h.heights.height ((record { world = w; label = Y; item = k }) ∷ path) h.way;
@@ -228,31 +268,86 @@ module _ (t : Table) (n : ℕ) (X Y : Set ℕ) (path : List Past) (f : Fragment)
   pub link_witness : HasWitness t.logic linked_on (items_of linked_on) w c
   link_witness = inr (v, inl (inr (serves.0, Contains-push f.links (w, v))), serves.1)
 
--- the next π is served
-pub sound_next : (t : Table) (n : ℕ) (X Y : Set ℕ) (path : List Past) (f : Fragment) (w k : ℕ) → IsSound t n X ((record { world = w; label = Y; item = k }) ∷ path) f →
-    ((c : ℕ) → Y k ≡ true → (entry_at t k).parts ≡ Pi c → HasWitness t.logic f (items_of f) w c) → IsSound t n X ((record { world = w; label = Y; item = k + 1 }) ∷ path) f
-sound_next t n X Y path f w k h here = record {
-  formed = h.formed;
-  inside = h.inside;
-  unclosed = h.unclosed;
-  flows = h.flows;
-  served = λ a s c l there e. elim (h.served a s c l there e) [ inl q ↦ inl q | inr q ↦ waits a s c there e q ];
-  root = h.root;
-  heights = h.heights;
-  way = h.way;
-} where
-  waits : (a s c : ℕ) → items_of f a s ≡ true → (entry_at t s).parts ≡ Pi c → IsWaiting ((record { world = w; label = Y; item = k }) ∷ path) a s →
-      HasWitness t.logic f (items_of f) a c ⊎ IsWaiting ((record { world = w; label = Y; item = k + 1 }) ∷ path) a s
-  waits a s c there e (inr q) = inr (inr q)
-  waits a s c there e (inl q) =
+-- the next item is served
+module _ (t : Table) (n : ℕ) (X Y : Set ℕ) (path : List Past) (f : Fragment) (w k : ℕ) (h : IsSound t n X ((record { world = w; label = Y; item = k }) ∷ path) f)
+    (pis : (c : ℕ) → Y k ≡ true → (entry_at t k).parts ≡ Pi c → HasWitness t.logic f (items_of f) w c)
+    (nus : has_serial t.logic ≡ true → Y k ≡ true → is_nu (entry_at t k).parts ≡ true → LeadsOn t.logic f w ⊎ (others_ask t Y k ≡ true)) where
+  abbrev now : List Past
+  now = (record { world = w; label = Y; item = k }) ∷ path
+
+  abbrev next : List Past
+  next = (record { world = w; label = Y; item = k + 1 }) ∷ path
+
+  served_now : (a : ℕ) → w ≡ a → items_of f a k ≡ true → Y k ≡ true
+  served_now a same there = subst (λ (Z : Set ℕ). Z k ≡ true) h.way.1 (subst (λ b. items_of f b k ≡ true) (sym same) there)
+
+  pis_wait : (a s c : ℕ) → items_of f a s ≡ true → (entry_at t s).parts ≡ Pi c → IsWaiting now a s → HasWitness t.logic f (items_of f) a c ⊎ IsWaiting next a s
+  pis_wait a s c there e (inr q) = inr (inr q)
+  pis_wait a s c there e (inl q) =
       elim (cases_lt k s) [
         | inl later ↦ inr (inl (q.0, omega arith))
-        | inr now ↦ (let same : s ≡ k = omega (arith, q.1) in
-            inl (subst (λ b. HasWitness t.logic f (items_of f) b c) q.0
-            (here c (subst (λ (Z : Set ℕ). Z k ≡ true) h.way.1 (subst (λ b. items_of f b k ≡ true) (sym q.0) (subst (λ i. items_of f a i ≡ true) same there))) (ap (λ i. (entry_at t i).parts) (sym same) ∙ e))))
+        | inr here ↦ (let same : s ≡ k = omega (arith, q.1) in
+            inl (subst (λ b. HasWitness t.logic f (items_of f) b c) q.0 (pis c (served_now a q.0 (subst (λ i. items_of f a i ≡ true) same there)) (ap (λ i. (entry_at t i).parts) (sym same) ∙ e))))
       ]
 
--- all π of the last world of the path are served
+  module _ (serial : has_serial t.logic ≡ true) where
+    -- a π of a world that waits still does, or has brought an edge
+    pi_leads : (a s i : ℕ) → items_of f a i ≡ true → is_pi (entry_at t i).parts ≡ true → IsWaiting now a i → LeadsOn t.logic f a ⊎ NuWaits t next f a s
+    pi_leads a s i there pi q =
+        let (c, e) = pi_with (entry_at t i).parts pi in
+        elim (pis_wait a i c there e q) [ inl found ↦ inl (witness_leads t.logic f (items_of f) a c serial found) | inr waits ↦ inr (inr (i, there, pi, waits)) ]
+
+    -- what asks in place of the ν k waits, or has brought an edge
+    pi_before : (i : ℕ) → items_of f w i ≡ true → is_pi (entry_at t i).parts ≡ true → LeadsOn t.logic f w ⊎ NuWaits t next f w k
+    pi_before i there pi =
+        let (c, e) = pi_with (entry_at t i).parts pi in
+        elim (h.served w i c h.way.0 there e) [ inl found ↦ inl (witness_leads t.logic f (items_of f) w c serial found) | inr waits ↦ pi_leads w k i there pi waits ]
+
+    nu_before : (i : ℕ) → i < k → items_of f w i ≡ true → is_nu (entry_at t i).parts ≡ true → LeadsOn t.logic f w ⊎ NuWaits t next f w k
+    nu_before i l there nu =
+        elim (h.serial serial w i h.way.0 nu there) [
+          | inl leads ↦ inl leads
+          | inr (inl (inl q)) ↦ absurd (omega (arith, l, q.1))
+          | inr (inl (inr q)) ↦ inr (inl (inr (waiting_more path w i k (omega arith) q)))
+          | inr (inr (j, here, pi, q)) ↦ pi_leads w k j here pi q
+        ]
+
+    others_lead : others_ask t Y k ≡ true → LeadsOn t.logic f w ⊎ NuWaits t next f w k
+    others_lead asks =
+        let (i, l, e) = any_below_cases (λ i. Y i && goes_before t k i) (item_count t) asks in
+        let both = and_parts (Y i) (goes_before t k i) e in
+        let there : items_of f w i ≡ true = subst (λ (Z : Set ℕ). Z i ≡ true) (sym h.way.1) both.0 in
+        elim (or_cases (is_pi (entry_at t i).parts) (is_nu (entry_at t i).parts && nat_lt i k) both.1) [
+          | inl pi ↦ pi_before i there pi
+          | inr nu ↦ (let parts = and_parts (is_nu (entry_at t i).parts) (nat_lt i k) nu in nu_before i (ltb-true i k parts.1) there parts.0)
+        ]
+
+    nu_waits : (a s : ℕ) → items_of f a s ≡ true → is_nu (entry_at t s).parts ≡ true → NuWaits t now f a s → LeadsOn t.logic f a ⊎ NuWaits t next f a s
+    nu_waits a s there nu (inr (i, here, pi, q)) = pi_leads a s i here pi q
+    nu_waits a s there nu (inl (inr q)) = inr (inl (inr q))
+    nu_waits a s there nu (inl (inl q)) =
+        elim (cases_lt k s) [
+          | inl later ↦ inr (inl (inl (q.0, omega arith)))
+          | inr here ↦ (let same : k ≡ s = omega (arith, q.1) in
+              subst (λ b. LeadsOn t.logic f b ⊎ NuWaits t next f b s) q.0
+              (subst (λ i. LeadsOn t.logic f w ⊎ NuWaits t next f w i) same
+              (elim (nus serial (served_now a q.0 (subst (λ i. items_of f a i ≡ true) (sym same) there)) (subst (λ i. is_nu (entry_at t i).parts ≡ true) (sym same) nu)) [ inl leads ↦ inl leads | inr asks ↦ others_lead asks ])))
+        ]
+
+  pub sound_next : IsSound t n X next f
+  sound_next = record {
+    formed = h.formed;
+    inside = h.inside;
+    unclosed = h.unclosed;
+    flows = h.flows;
+    served = λ a s c l there e. elim (h.served a s c l there e) [ inl q ↦ inl q | inr q ↦ pis_wait a s c there e q ];
+    serial = λ serial a s l nu there. elim (h.serial serial a s l nu there) [ inl q ↦ inl q | inr q ↦ nu_waits serial a s there nu q ];
+    root = h.root;
+    heights = h.heights;
+    way = h.way;
+  }
+
+-- all items of the last world of the path are served
 pub sound_done : (t : Table) (n : ℕ) (X Y : Set ℕ) (path : List Past) (f : Fragment) (w k : ℕ) → IsSound t n X ((record { world = w; label = Y; item = k }) ∷ path) f → item_count t ≤ k → IsSound t n X path f
 sound_done t n X Y path f w k h all = record {
   formed = h.formed;
@@ -260,6 +355,11 @@ sound_done t n X Y path f w k h all = record {
   unclosed = h.unclosed;
   flows = h.flows;
   served = λ a s c l there e. elim (h.served a s c l there e) [ inl q ↦ inl q | inr q ↦ inr (waits a s there q) ];
+  serial = λ serial a s l nu there. elim (h.serial serial a s l nu there) [
+    | inl q ↦ inl q
+    | inr (inl q) ↦ inr (inl (waits a s there q))
+    | inr (inr (i, here, pi, q)) ↦ inr (inr (i, here, pi, waits a i here q))
+  ];
   root = h.root;
   heights = h.heights;
   way = h.way.4;

@@ -3,7 +3,7 @@ use Rattle.std.proofs.Common.{◌≡◌, ℕ, zero, suc, ◌<◌, Bool, true, fa
 use Rattle.std.specs.Cmp.{both_ways as same_bool}
 use Rattle.std.proofs.lemmas.Bool.{and_parts, and_from, or_cases, or_left, or_right, eq-eqb, eqb-true, false_from_ne_true, false≢true, true≢false}
 use Rattle.lw_formula.specs.declared.logic.Logic.{Logic}
-use Rattle.lw_formula.specs.declared.logic.Logic.TheVariants.{K, KT, S4, S5, GL, Grz}
+use Rattle.lw_formula.specs.declared.logic.Logic.TheVariants.{K, KT, S4, S5, GL, Grz, K4, KD}
 use Rattle.lw_formula.specs.declared.parts.Parts.{Parts}
 use Rattle.lw_formula.specs.declared.parts.Parts.TheVariants.{Nothing, One, Two, Nu, Pi}
 use Rattle.lw_proof.specs.System.{Set, IsWithin}
@@ -16,7 +16,7 @@ use Rattle.lw_sat.specs.Sets.{nothing, IsOfItems}
 use Rattle.lw_search.specs.Step.{keeps_inside, keeps_nu}
 use Rattle.lw_search.specs.Private.StepUse.{kept_of, meets}
 
-nu_with : (p : Parts ℕ) → is_nu p ≡ true → (c : ℕ) × (p ≡ Nu c)
+pub nu_with : (p : Parts ℕ) → is_nu p ≡ true → (c : ℕ) × (p ≡ Nu c)
 nu_with (Nu c) e = (c, refl)
 nu_with Nothing e = absurd (false≢true e)
 nu_with (One c d) e = absurd (false≢true e)
@@ -59,6 +59,8 @@ module _ (t : Table) (uncut : has_cut t.logic ≡ false) where
       kept_leads S5 c e = absurd (true≢false c)
       kept_leads GL c e = elim (or_cases (is_nu (entry_at t j).parts && X j) ((items t).under X j) e) [ inl a ↦ nu_leads GL refl a | inr b ↦ under_leads GL refl b ]
       kept_leads Grz c e = nu_leads Grz refl e
+      kept_leads K4 c e = elim (or_cases (is_nu (entry_at t j).parts && X j) ((items t).under X j) e) [ inl a ↦ nu_leads K4 refl a | inr b ↦ under_leads K4 refl b ]
+      kept_leads KD c e = under_leads KD refl e
 
     module _ (i : ℕ) (l : i < item_count t) (there : X i ≡ true) where
       nu_kept : {c : ℕ} → (entry_at t i).parts ≡ Nu c → i ≡ j → (is_nu (entry_at t j).parts && X j) ≡ true
@@ -79,6 +81,10 @@ module _ (t : Table) (uncut : has_cut t.logic ≡ false) where
       leads_kept GL c (d, is, inr h) = or_right (is_nu (entry_at t j).parts && X j) ((items t).under X j) (under_kept is h.1)
       leads_kept Grz c (d, is, inl h) = nu_kept is h.1
       leads_kept Grz c (d, is, inr h) = absurd (false≢true h.0)
+      leads_kept K4 c (d, is, inl h) = or_left (is_nu (entry_at t j).parts && X j) ((items t).under X j) (nu_kept is h.1)
+      leads_kept K4 c (d, is, inr h) = or_right (is_nu (entry_at t j).parts && X j) ((items t).under X j) (under_kept is h.1)
+      leads_kept KD c (d, is, inl h) = absurd (false≢true h.0)
+      leads_kept KD c (d, is, inr h) = under_kept is h.1
 
   -- what is kept of one item
   module _ (i : ℕ) (l : i < item_count t) where
@@ -128,7 +134,7 @@ module _ (t : Table) (uncut : has_cut t.logic ≡ false) where
     kept_itself : keeps_nu t.logic ≡ true → kept_of t i i ≡ true
     kept_itself k = of_leads i l i (c, sym nu, inl (k, refl))
 
-    kept_inner : keeps_inside t.logic ≡ true → kept_of t i c ≡ true
+    pub kept_inner : keeps_inside t.logic ≡ true → kept_of t i c ≡ true
     kept_inner k = of_leads i l c (c, sym nu, inr (k, refl))
 
     pub kept_nu : kept_of t i ≡ (λ j. (keeps_nu t.logic && eqb i j) || (keeps_inside t.logic && eqb c j))

@@ -5,7 +5,7 @@ use Rattle.std.specs.List.{list_any}
 use Rattle.std.specs.Option.{option_map, option_to_list}
 use Rattle.std.proofs.lemmas.Bool.{or_cases, or_left, and_parts, false≢true}
 use Rattle.lw_formula.specs.declared.logic.Logic.{Logic}
-use Rattle.lw_formula.specs.declared.logic.Logic.TheVariants.{K, KT, S4, S5, GL, Grz}
+use Rattle.lw_formula.specs.declared.logic.Logic.TheVariants.{K, KT, S4, S5, GL, Grz, K4, KD}
 use Rattle.lw_formula.specs.declared.parts.Parts.{Parts}
 use Rattle.lw_formula.specs.declared.parts.Parts.TheVariants.{One, Two, Nu, Pi}
 use Rattle.lw_formula.specs.declared.sign.Sign.TheVariants.{F}
@@ -104,6 +104,8 @@ module _ (ts : List Formula) (t : Table) (keeps : Keeps ts t) where
   good_added KT i c q l own g = good_more c [] g good_none
   good_added S4 i c q l own g = good_more c [] g good_none
   good_added S5 i c q l own g = good_more c [] g good_none
+  good_added K4 i c q l own g = good_more c [] g good_none
+  good_added KD i c q l own g = good_more c [] g good_none
 
   plus_good : (cs : List ℕ) (X : Set ℕ) → ListGood cs → IsGood X → IsGood (plus (items t) cs X)
   plus_good cs X new old i e = elim (or_cases (list_any (λ c. nat_eq c i) cs) (X i) e) [ inl a ↦ new i a | inr b ↦ old i b ]
@@ -124,6 +126,11 @@ module _ (ts : List Formula) (t : Table) (keeps : Keeps ts t) where
     | inl own ↦ h i (and_parts (is_nu (parts i)) (X i) own).1
     | inr below ↦ under_good X i below
   ]
+  kept_good K4 X h = λ i e. elim (or_cases (is_nu (parts i) && X i) ((items t).under X i) e) [
+    | inl own ↦ h i (and_parts (is_nu (parts i)) (X i) own).1
+    | inr below ↦ under_good X i below
+  ]
+  kept_good KD X h = under_good X
 
   -- a Cut is on one of the goal's formulas
   abbrev IsOwnCut : Rule → ℕ → Type 0
@@ -136,6 +143,7 @@ module _ (ts : List Formula) (t : Table) (keeps : Keeps ts t) where
   premises_good Rule.Two i (Two p q) X l o u g h = (plus_good (side p.0 p.1) X (good_side p.0 p.1 g.0) h, (plus_good (side q.0 q.1) X (good_side q.0 q.1 g.1) h, tt))
   premises_good Rule.Refl i (Nu c) X l o u g h = (plus_good (c ∷ []) X (good_more c [] g good_none) h, tt)
   premises_good Rule.Step i (Pi c) X l o u g h = (plus_good (added (items t) t.logic i c) (kept (items t) t.logic X) (good_added t.logic i c refl l o g) (kept_good t.logic X h), tt)
+  premises_good Rule.Serial i (Nu c) X l o u g h = (kept_good t.logic X h, tt)
   premises_good Rule.Cut i p X l o u g h =
       (plus_good (i ∷ []) X (good_more i [] (λ _. u) good_none) h, (plus_good (flip_item i ∷ []) X (good_more (flip_item i) [] (good_flip i u) good_none) h, tt))
   premises_good _ i p X l o u g h = tt
@@ -169,6 +177,7 @@ module _ (ts : List Formula) (t : Table) (keeps : Keeps ts t) where
 
   gains_lifted : (r : Rule) (X : Set ℕ) (Y : SignedSet) → Lifted X Y → From X Y → (Zs : List (Set ℕ)) (Vs : List SignedSet) → AllLifted Zs Vs → Gains r X Zs → Gains r Y Vs
   gains_lifted Rule.Step X Y w h Zs Vs v new = tt
+  gains_lifted Rule.Serial X Y w h Zs Vs v new = tt
   gains_lifted _ X Y w h Zs Vs v new = all_new_lifted X Y w h Zs Vs v new
 
   mutual

@@ -7,6 +7,7 @@ pub mod ExploredModels
 pub mod LoopAnswers
 pub mod FragmentGrowth
 pub mod KeptItems
+pub mod FewAskers
 pub mod StepSeeds
 pub mod WaitingLevels
 pub mod SearchSums

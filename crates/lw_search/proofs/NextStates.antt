@@ -1,14 +1,14 @@
 -- How a search goes on from one state to the next.
-use Rattle.std.proofs.Common.{◌≡◌, ℕ, suc, ◌+◌, ◌-◌, ◌*◌, ◌<◌, ◌≤◌, Bool, true, Option, Some, List, [], ◌∷◌, ◌++◌, length, inl, inr, refl, sym, ap, subst, ◌∙◌, arith}
+use Rattle.std.proofs.Common.{◌≡◌, ℕ, suc, ◌+◌, ◌-◌, ◌*◌, ◌<◌, ◌≤◌, ◌⊎◌, ◌||◌, Bool, true, Option, Some, List, [], ◌∷◌, ◌++◌, length, inl, inr, refl, sym, ap, subst, ◌∙◌, arith}
 use Rattle.std.specs.Bool.{IsTrue}
 use Rattle.std.specs.List.{All}
 use Rattle.std.specs.Option.{ForSome}
-use Rattle.std.proofs.lemmas.Bool.{or_right, false≢true}
+use Rattle.std.proofs.lemmas.Bool.{and_from, or_left, or_right, false≢true}
 use Rattle.std.proofs.lemmas.List.{length_push}
-use Rattle.lw_formula.specs.declared.parts.Parts.TheVariants.{Pi}
+use Rattle.lw_formula.specs.declared.parts.Parts.TheVariants.{Nu, Pi}
 use Rattle.lw_model.specs.Bounds.{tree_size}
 use Rattle.lw_proof.specs.System.{Set, IsWithin}
-use Rattle.lw_proof.specs.Derivation.{added, kept}
+use Rattle.lw_proof.specs.Derivation.{added, has_serial, is_nu, kept}
 use Rattle.lw_closure.specs.Table.{Table, entry_at, item_count}
 use Rattle.lw_closure.specs.Items.{items}
 use Rattle.lw_closure.specs.Unclosed.{IsUnclosedLabel}
@@ -25,14 +25,16 @@ use Rattle.lw_search.specs.declared.level.Search.{Search}
 use Rattle.lw_search.specs.declared.level.Served.TheVariants.{ByStep, Done}
 use Rattle.lw_search.specs.Explored.{IsExplored}
 use Rattle.lw_search.specs.Private.SearchLevels.{Aim, Begins, IsServing, IsUnderWork, Nested, Place, Serves, Waits, above, child_room, child_size, held_room, label, most_room, past, serving_room, start, unit, waiting_room, work_room}
-use Rattle.lw_search.specs.Ranked.{AsksFor, IsServedBy, LeadsTo, Past}
-use Rattle.lw_search.specs.Private.SearchWorlds.{last_world, IsOnWay, IsSound}
+use Rattle.lw_search.specs.Ranked.{AsksFor, IsServedBy, LeadsTo, Past, StepsTo}
+use Rattle.lw_search.specs.Private.SearchWorlds.{last_world, IsOnWay, IsSound, LeadsOn}
+use Rattle.lw_search.specs.Private.StepAskers.{asks_alone, may_ask, others_ask}
 use Rattle.lw_search.specs.Step.{askers, count_below, is_asker, seed}
 use Rattle.lw_search.specs.Private.SearchTurns.{IsAsked, IsFar, ServesItself, StepFits}
-use Rattle.lw_search.proofs.SearchSums.{few_child, few_more, few_start, room_descends, room_next, room_settled, tree_is, unit_is}
+use Rattle.lw_search.proofs.SearchSums.{few_child, few_more, few_start, few_whole, room_descends, room_next, room_settled, unit_is}
+use Rattle.lw_search.proofs.FewAskers.{few_asking}
 use Rattle.lw_search.proofs.WaitingLevels.{held_on, nested_left, nested_off, nested_on}
 use Rattle.lw_search.proofs.StepSeeds.{seed_first, seed_items}
-use Rattle.lw_search.proofs.FragmentGrowth.{link_witness, on_way, sound_done, sound_link, sound_next, sound_push}
+use Rattle.lw_search.proofs.FragmentGrowth.{link_witness, on_way, sound_done, sound_link, sound_next, sound_push, witness_leads}
 
 -- a path that leads to a set leads to each larger one
 pub leads_more : (t : Table) (path : List Past) (X Y : Set ℕ) → IsWithin X Y → LeadsTo t path X → LeadsTo t path Y
@@ -114,7 +116,7 @@ module _ (t : Table) (aim : Aim) (s : Search) (h : IsUnderWork t aim s) (unclose
 
 -- a level goes on with its items, up to the item i, where the fragment has become g
 serves_on : (t : Table) (aim : Aim) (a : Place) (l : Level) (f g : Fragment) (i : ℕ) → Serves t aim a l f → i ≤ item_count t → cut_to l.world g ≡ a.fragment → IsSound t aim.bound aim.seed (past (record l { item = i }) ∷ a.path) g →
-    length g.worlds ≤ l.world + 1 + count_below (is_asker t) i * child_size (askers t) a.left → Serves t aim a (record l { item = i }) g
+    length g.worlds ≤ l.world + 1 + count_below (may_ask t (label l)) i * child_size (askers t) a.left → Serves t aim a (record l { item = i }) g
 serves_on t aim a l f g i h inside back sound few = record {
   place = h.place;
   at = h.at;
@@ -142,25 +144,46 @@ module _ (t : Table) (aim : Aim) (s : Search) (h : IsServing t aim s) (v c : ℕ
   pub linked_witness : (let f : Fragment = with_link s.fragment s.level.world v in HasWitness t.logic f (items_of f) s.level.world c)
   linked_witness = link_witness t aim.bound aim.seed (label s.level) h.place.path s.fragment s.level.world v s.level.item c h.serves.sound below serves
 
+-- the item of the last level is served: a π has a witness, and in the serial logic an edge leads on from a ν's world, or another item asks in its place
+pub record ItemServed (t : Table) (s : Search) : Type 0 where
+  pub pis : (c : ℕ) → label s.level s.level.item ≡ true → (entry_at t s.level.item).parts ≡ Pi c → HasWitness t.logic s.fragment (items_of s.fragment) s.level.world c
+  pub nus :
+      has_serial t.logic ≡ true → label s.level s.level.item ≡ true → is_nu (entry_at t s.level.item).parts ≡ true →
+      LeadsOn t.logic s.fragment s.level.world ⊎ (others_ask t (label s.level) s.level.item ≡ true)
+
+-- a witness of the component serves the item
+pub witness_serves :
+    (t : Table) (s : Search) (c : ℕ) → StepsTo t s.level.item c → HasWitness t.logic s.fragment (items_of s.fragment) s.level.world c → ItemServed t s
+witness_serves t s c steps found = record {
+  pis = λ d there parts. subst (λ e. HasWitness t.logic s.fragment (items_of s.fragment) s.level.world e) (same d parts) found;
+  nus = λ serial there nu. inl (witness_leads t.logic s.fragment (items_of s.fragment) s.level.world c serial found);
+} where
+  same : (d : ℕ) → (entry_at t s.level.item).parts ≡ Pi d → c ≡ d
+  same d parts = elim steps [
+    | inl pi ↦ (let both : Pi c ≡ Pi d = sym pi ∙ parts in cc)
+    | inr nu ↦ (let both : Nu c ≡ Pi d = sym nu.1 ∙ parts in cc)
+  ]
+
 -- the next item of the last level
 module _ (t : Table) (aim : Aim) (s : Search) (h : IsServing t aim s) (below : s.level.item < item_count t) where
   abbrev next_level : Level
   next_level = record s.level { item = s.level.item + 1 }
 
-  pub next_serving : ((c : ℕ) → label s.level s.level.item ≡ true → (entry_at t s.level.item).parts ≡ Pi c → HasWitness t.logic s.fragment (items_of s.fragment) s.level.world c) → IsServing t aim (record s { level = next_level })
-  next_serving here = record {
+  pub next_serving : ItemServed t s → IsServing t aim (record s { level = next_level })
+  next_serving served = record {
     guides = h.guides;
     place = h.place;
     nested = h.nested;
     serves = serves_on t aim h.place s.level s.fragment s.fragment (s.level.item + 1) h.serves (omega arith) h.serves.back
-        (sound_next t aim.bound aim.seed (label s.level) h.place.path s.fragment s.level.world s.level.item h.serves.sound here)
-        (few_more t (length s.fragment.worlds) s.level.world s.level.item (child_size (askers t) h.place.left) h.serves.few);
+        (sound_next t aim.bound aim.seed (label s.level) h.place.path s.fragment s.level.world s.level.item h.serves.sound served.pis served.nus)
+        (few_more (may_ask t (label s.level)) (length s.fragment.worlds) s.level.world s.level.item (child_size (askers t) h.place.left) h.serves.few);
   }
 
-  pub itself_witness : ServesItself t (label s.level) s.level.item → (c : ℕ) → label s.level s.level.item ≡ true → (entry_at t s.level.item).parts ≡ Pi c → HasWitness t.logic s.fragment (items_of s.fragment) s.level.world c
-  itself_witness own c there parts =
-      let both = own c there parts in
-      inl (both.0, subst (λ (Y : Set ℕ). Y c ≡ true) (sym h.serves.sound.way.1) both.1)
+  pub itself_served : ServesItself t (label s.level) s.level.item → ItemServed t s
+  itself_served own = record {
+    pis = λ c there parts. (let both = own.pi c there parts in inl (both.0, subst (λ (Y : Set ℕ). Y c ≡ true) (sym h.serves.sound.way.1) both.1));
+    nus = λ serial there nu. inr (own.nu serial there nu);
+  }
 
   pub next_room : serving_room t aim.bound (record s { level = next_level }) ≤ serving_room t aim.bound s
   next_room =
@@ -178,15 +201,24 @@ module _ (t : Table) (aim : Aim) (s : Search) (h : IsServing t aim s) (c : ℕ) 
     unclosed = h.serves.unclosed;
     leads = leads_more t from.path from.seed (label s.level) (label_within t from.seed (aim.rank from.path from.left) s.level h.serves.at) h.serves.place.leads;
     there = asked.there;
-    parts = asked.parts;
+    steps = asked.steps;
     alone = asked.alone;
+    own = λ served. far s.level.world h.serves.sound.way.0 (subst (λ X. IsServedBy t (label s.level) X c) (sym h.serves.sound.way.1) served);
     far = λ p m served.
         (let there = on_way aim.bound h.serves.sound.heights.height s.fragment from.path h.serves.sound.way.4 p m in
         far p.world there.0 (subst (λ X. IsServedBy t (label s.level) X c) (sym there.1) served));
   }
 
-  pub descends : (0 < from.left) × IsTrue (is_asker t s.level.item) × IsTrue (aim.rank (past s.level ∷ from.path) (from.left - 1) (seed t (label s.level) s.level.item c))
+  pub descends : (0 < from.left) × ((entry_at t s.level.item).parts ≡ Pi c → IsTrue (is_asker t s.level.item)) × IsTrue (aim.rank (past s.level ∷ from.path) (from.left - 1) (seed t (label s.level) s.level.item c))
   descends = h.guides.falls from.path from.left (label s.level) s.level.item c s.level.world h.serves.at.passes asks
+
+  asks_here : may_ask t (label s.level) s.level.item ≡ true
+  asks_here =
+      and_from (label s.level s.level.item) (is_asker t s.level.item || asks_alone t (label s.level) s.level.item) asked.there
+      (elim asked.steps [
+        | inl pi ↦ or_left (is_asker t s.level.item) (asks_alone t (label s.level) s.level.item) (descends.1 pi)
+        | inr nu ↦ or_right (is_asker t s.level.item) (asks_alone t (label s.level) s.level.item) (asked.first nu.1)
+      ])
 
   abbrev to : Place
   to = above t from s.level c s.fragment
@@ -199,10 +231,10 @@ module _ (t : Table) (aim : Aim) (s : Search) (h : IsServing t aim s) (c : ℕ) 
       stands = record {
         guides = h.guides;
         place = to;
-        nested = subst (λ ls. Nested t aim (start aim) ls to) (sym below) (nested_on t aim s.below.items s.level (start aim) from to h.nested (record { serves = h.serves; inner = c; asks = asks; next = refl }));
+        nested = subst (λ ls. Nested t aim (start aim) ls to) (sym below) (nested_on t aim s.below.items s.level (start aim) from to h.nested (record { serves = h.serves; inner = c; asks = asks; may = asks_here; next = refl }));
         is_place = record {
-          items = seed_items t h.guides.table h.guides.uncut (label s.level) s.level.item c asks.items asked.there asked.parts;
-          leads = ((c, asked.parts, λ i e. e), asks.leads);
+          items = seed_items t h.guides.table h.guides.uncut (label s.level) s.level.item c asks.items asked.there asked.steps;
+          leads = ((c, asked.steps, λ i e. e), asks.leads);
           left = (let left = h.serves.place.left in omega (arith, descends.0, left));
           begins = tt;
           sound = h.serves.sound;
@@ -211,7 +243,7 @@ module _ (t : Table) (aim : Aim) (s : Search) (h : IsServing t aim s) (c : ℕ) 
       };
       at = subst (λ fs. IsAt t to.seed (aim.rank to.path to.left) fs n.level.board) (sym frames) (record {
         wide = wide;
-        seed = seed_items t h.guides.table h.guides.uncut (label s.level) s.level.item c asks.items asked.there asked.parts;
+        seed = seed_items t h.guides.table h.guides.uncut (label s.level) s.level.item c asks.items asked.there asked.steps;
         leads = sym spot;
         passes = subst (λ (Y : Set ℕ). aim.rank to.path to.left Y ≡ true) (sym (ap (λ (x : Spot). x.set) spot)) descends.2;
       });
@@ -231,7 +263,13 @@ module _ (t : Table) (aim : Aim) (s : Search) (h : IsServing t aim s) (c : ℕ) 
         (room_below s.level.board.bits (spot_of s.level.board) * unit (item_count t) (k - length s.below.items))
         (ap (child_room (item_count t)) gone) held few (asks.items s.level.item asked.there)
 
--- all π of the last level are served: the level below goes on
+-- all items of the last level are served: no more of them asked than the table has askers
+few_served : (t : Table) (aim : Aim) (s : Search) (h : IsServing t aim s) → s.level.item ≡ item_count t → count_below (may_ask t (label s.level)) s.level.item ≤ askers t
+few_served t aim s h all =
+    subst (λ n. count_below (may_ask t (label s.level)) n ≤ askers t) (sym all)
+    (few_asking t (label s.level) (label_items t h.place.seed (aim.rank h.place.path h.place.left) s.level h.serves.at) h.guides.some)
+
+-- the level below goes on
 module _ (t : Table) (aim : Aim) (s : Search) (h : IsServing t aim s) (all : s.level.item ≡ item_count t) (ls : List Level) (l : Level) (below : s.below.items ≡ ls ++ l ∷ []) where
   abbrev f : Fragment
   f = s.fragment
@@ -261,14 +299,20 @@ module _ (t : Table) (aim : Aim) (s : Search) (h : IsServing t aim s) (all : s.l
   child_world : (world_at f s.level.world).parent ≡ Some l.world
   child_world = h.serves.sound.way.2 ∙ ap last_world path_is
 
-  risen_witness : (c : ℕ) → label l l.item ≡ true → (entry_at t l.item).parts ≡ Pi c → HasWitness t.logic f (items_of f) l.world c
-  risen_witness c there parts =
-      let same : waits.inner ≡ c = (let e : Pi waits.inner ≡ Pi c = sym waits.asks.parts ∙ parts in cc) in
+  risen_witness : HasWitness t.logic f (items_of f) l.world waits.inner
+  risen_witness =
       let begun : seed t (label l) l.item waits.inner waits.inner ≡ true = seed_first t (label l) l.item waits.inner in
       let inside : label s.level waits.inner ≡ true = label_within t h.place.seed (aim.rank h.place.path h.place.left) s.level h.serves.at waits.inner (subst (λ (Y : Set ℕ). Y waits.inner ≡ true) (sym seed_is) begun) in
-      inr (s.level.world, inl (inl child_world), subst (λ j. items_of f s.level.world j ≡ true) same (subst (λ (Y : Set ℕ). Y waits.inner ≡ true) (sym h.serves.sound.way.1) inside))
+      inr (s.level.world, inl (inl child_world), subst (λ (Y : Set ℕ). Y waits.inner ≡ true) (sym h.serves.sound.way.1) inside)
 
-  descends_at : (0 < lower.left) × IsTrue (is_asker t l.item) × IsTrue (aim.rank (past l ∷ lower.path) (lower.left - 1) (seed t (label l) l.item waits.inner))
+  -- as the level goes on with the fragment
+  abbrev risen_search : Search
+  risen_search = record s { level = l; fragment = f }
+
+  risen_served : ItemServed t risen_search
+  risen_served = witness_serves t risen_search waits.inner waits.asks.steps risen_witness
+
+  descends_at : (0 < lower.left) × ((entry_at t l.item).parts ≡ Pi waits.inner → IsTrue (is_asker t l.item)) × IsTrue (aim.rank (past l ∷ lower.path) (lower.left - 1) (seed t (label l) l.item waits.inner))
   descends_at = h.guides.falls lower.path lower.left (label l) l.item waits.inner l.world waits.serves.at.passes waits.asks
 
   pub item_below : l.item < item_count t
@@ -285,16 +329,14 @@ module _ (t : Table) (aim : Aim) (s : Search) (h : IsServing t aim s) (all : s.l
 
   child_few : length f.worlds ≤ s.level.world + tree_size (askers t) (lower.left - 1)
   child_few =
-      let whole = tree_is (askers t) h.place.left in
-      let count : count_below (is_asker t) s.level.item * child_size (askers t) h.place.left ≡ askers t * child_size (askers t) h.place.left = ap (λ i. count_below (is_asker t) i * child_size (askers t) h.place.left) all in
-      let same = ap (tree_size (askers t)) left_is in
-      omega (arith, h.serves.few, whole, count, same)
+      subst (λ n. length f.worlds ≤ s.level.world + tree_size (askers t) n) left_is
+      (few_whole (length f.worlds) s.level.world (count_below (may_ask t (label s.level)) s.level.item) (askers t) h.place.left (few_served t aim s h all) h.serves.few)
 
   pub risen_serves : Serves t aim lower next_of f
   risen_serves =
-      serves_on t aim lower l h.place.fragment f (l.item + 1) waits.serves (omega (arith, item_below)) risen_back (sound_next t aim.bound aim.seed (label l) lower.path f l.world l.item done risen_witness)
-      (few_child t (length f.worlds) s.level.world l.world l.item (askers t) lower.left descends_at.1 descends_at.0
-      (subst (λ w. w ≤ l.world + 1 + count_below (is_asker t) l.item * child_size (askers t) lower.left) (sym h.serves.world) waits.serves.few) child_few)
+      serves_on t aim lower l h.place.fragment f (l.item + 1) waits.serves (omega (arith, item_below)) risen_back (sound_next t aim.bound aim.seed (label l) lower.path f l.world l.item done risen_served.pis risen_served.nus)
+      (few_child (may_ask t (label l)) (length f.worlds) s.level.world l.world l.item (askers t) lower.left waits.may descends_at.0
+      (subst (λ w. w ≤ l.world + 1 + count_below (may_ask t (label l)) l.item * child_size (askers t) lower.left) (sym h.serves.world) waits.serves.few) child_few)
 
   pub risen : (n : Search) → n.below.items ≡ ls → n.level ≡ next_of → n.fragment ≡ f → IsServing t aim n × (serving_room t aim.bound n ≤ serving_room t aim.bound s)
   risen n e level fragment = (
@@ -330,16 +372,16 @@ module _ (t : Table) (aim : Aim) (s : Search) (h : IsServing t aim s) (all : s.l
       flows = whole.flows;
       served = λ w l i c there parts. elim (whole.served w i c l there parts) [ inl q ↦ q | inr q ↦ absurd q ];
       round = λ cut. absurd (false≢true (sym h.guides.uncut ∙ cut));
+      serial = λ serial w l i nu there. elim (whole.serial serial w i l nu there) [ inl q ↦ q | inr (inl q) ↦ absurd q | inr (inr q) ↦ absurd q.3 ];
     };
     items = whole.inside;
     root = whole.root (let there = h.serves.sound.way.0 in omega (arith, there));
     few =
-        let size = tree_is (askers t) aim.bound in
-        let count : count_below (is_asker t) s.level.item * child_size (askers t) h.place.left ≡ askers t * child_size (askers t) aim.bound =
-        (λ i. count_below (is_asker t) (all i) * child_size (askers t) ((at_start i).left)) in
+        let whole = few_whole (length s.fragment.worlds) s.level.world (count_below (may_ask t (label s.level)) s.level.item) (askers t) h.place.left (few_served t aim s h all) h.serves.few in
+        let size = ap (λ (x : Place). tree_size (askers t) x.left) at_start in
         let first = ap (λ (x : Place). length x.fragment.worlds) at_start in
         let world = h.serves.world in
-        omega (arith, h.serves.few, size, count, first, world);
+        omega (arith, whole, size, first, world);
     heights = whole.heights;
   }
 
@@ -350,12 +392,11 @@ serving_room_same t k n s e f =
 
 -- the item of the last level is served
 pub item_done : (t : Table) (aim : Aim) (s n : Search) → IsServing t aim n → n.level ≡ s.level → n.below ≡ s.below → s.level.item < item_count t →
-    ((c : ℕ) → label n.level n.level.item ≡ true → (entry_at t n.level.item).parts ≡ Pi c → HasWitness t.logic n.fragment (items_of n.fragment) n.level.world c) →
-    StepFits t aim s (record n { level = record n.level { item = s.level.item + 1 } }) Done
-item_done t aim s n h level below inside here =
+    ItemServed t n → StepFits t aim s (record n { level = record n.level { item = s.level.item + 1 } }) Done
+item_done t aim s n h level below inside served =
     let item = ap (λ (l : Level). l.item) level in
     let within : n.level.item < item_count t = omega arith in
     let room = next_room t aim n h within in
     let same = serving_room_same t aim.bound n s level below in
     subst (λ (j : ℕ). IsServing t aim (record n { level = record n.level { item = j + 1 } }) × (j + 1 ≡ s.level.item + 1) × (serving_room t aim.bound (record n { level = record n.level { item = j + 1 } }) ≤ serving_room t aim.bound s) × (n.below ≡ s.below)) item
-    (next_serving t aim n h within here, ap (λ j. j + 1) item, omega (arith, room, same), below)
+    (next_serving t aim n h within served, ap (λ j. j + 1) item, omega (arith, room, same), below)

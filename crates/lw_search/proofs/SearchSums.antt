@@ -2,9 +2,8 @@
 use Rattle.std.proofs.Common.{◌≡◌, ℕ, zero, suc, ◌+◌, ◌-◌, ◌*◌, ◌<◌, ◌≤◌, Bool, true, cond, refl, sym, ap, subst, ◌∙◌, arith, add-one}
 use Rattle.std.proofs.Math.Nat.{mul-le-mul_right}
 use Rattle.lw_model.specs.Bounds.{tree_size}
-use Rattle.lw_closure.specs.Table.{Table}
 use Rattle.lw_search.specs.Private.SearchLevels.{child_room, child_size, unit}
-use Rattle.lw_search.specs.Step.{count_below, is_asker}
+use Rattle.lw_search.specs.Step.{count_below}
 
 -- a unit is one more than all steps of a label
 pub unit_is : (n k : ℕ) → unit n k ≡ 1 + n * child_room n k
@@ -22,17 +21,17 @@ few_start f w x e = omega arith
 pub count_more : (test : ℕ → Bool) (k : ℕ) → count_below test (k + 1) ≡ cond (test k) 1 0 + count_below test k
 count_more test k = ap (count_below test) (add-one k)
 
-pub few_more : (t : Table) (f w k x : ℕ) → f ≤ w + 1 + count_below (is_asker t) k * x → f ≤ w + 1 + count_below (is_asker t) (k + 1) * x
-few_more t f w k x h = go (cond (is_asker t k) 1 0) (count_below (is_asker t) k) (count_below (is_asker t) (k + 1)) (count_more (is_asker t) k) h where
+pub few_more : (test : ℕ → Bool) (f w k x : ℕ) → f ≤ w + 1 + count_below test k * x → f ≤ w + 1 + count_below test (k + 1) * x
+few_more test f w k x h = go (cond (test k) 1 0) (count_below test k) (count_below test (k + 1)) (count_more test k) h where
   go : (d a b : ℕ) → b ≡ d + a → f ≤ w + 1 + a * x → f ≤ w + 1 + b * x
   go d a b e h = subst (λ c. f ≤ w + 1 + c * x) (sym e) (omega arith)
 
 -- with the worlds of a child that asked for a step
-pub few_child : (t : Table) (f g w k m n : ℕ) → is_asker t k ≡ true → 0 < n → g ≤ w + 1 + count_below (is_asker t) k * child_size m n → f ≤ g + tree_size m (n - 1) →
-    f ≤ w + 1 + count_below (is_asker t) (k + 1) * child_size m n
-few_child t f g w k m zero asks some h l = absurd (omega arith)
-few_child t f g w k m (suc n) asks some h l =
-    go (count_below (is_asker t) k) (count_below (is_asker t) (k + 1)) (tree_size m n) (count_more (is_asker t) k ∙ ap (λ b. cond b 1 0 + count_below (is_asker t) k) asks) h
+pub few_child : (test : ℕ → Bool) (f g w k m n : ℕ) → test k ≡ true → 0 < n → g ≤ w + 1 + count_below test k * child_size m n → f ≤ g + tree_size m (n - 1) →
+    f ≤ w + 1 + count_below test (k + 1) * child_size m n
+few_child test f g w k m zero asks some h l = absurd (omega arith)
+few_child test f g w k m (suc n) asks some h l =
+    go (count_below test k) (count_below test (k + 1)) (tree_size m n) (count_more test k ∙ ap (λ b. cond b 1 0 + count_below test k) asks) h
     (subst (λ j. f ≤ g + tree_size m j) same l)
   where
     same : suc n - 1 ≡ n
@@ -56,3 +55,10 @@ pub room_descends : (new old most n i c u room_new b : ℕ) → c ≡ most * u �
 room_descends new old most n i c u room_new b own e few l = go (n - (i + 1)) (n - i) (omega arith) e (mul-le-mul_right u few) where
   go : (d f : ℕ) → f ≡ d + 1 → new ≡ old + (b + d * c) → room_new * u ≤ most * u → new + room_new * u ≤ old + (b + f * c)
   go d f h e less = subst (λ m. new + room_new * u ≤ old + (b + m * c)) (sym h) (omega arith)
+
+-- no more than the trees of all askers, where no more than these ask
+pub few_whole : (f w k m n : ℕ) → k ≤ m → f ≤ w + 1 + k * child_size m n → f ≤ w + tree_size m n
+few_whole f w k m n few h =
+    let whole = tree_is m n in
+    let less : k * child_size m n ≤ m * child_size m n = mul-le-mul_right (child_size m n) few in
+    omega (arith, whole, less)

@@ -1,10 +1,11 @@
-// Which π of a label ask for a step.
+// Which items of a label ask for a step.
 ghost use Rattle.std.specs.Prelude.{◌≡◌, ◌<◌, ◌↔◌, ◌||◌, not, IsTrue, MatchOption};
 ghost use Rattle.lw_proof.specs.Derivation.{kept};
 ghost use Rattle.lw_proof.specs.System.{IsWithin};
 ghost use Rattle.lw_closure.specs.Table.{item_count};
 ghost use Rattle.lw_closure.specs.Items as of_items;
 ghost use Rattle.lw_sat.specs.Sets.{among, top, IsOfItems};
+ghost use Rattle.lw_search.specs.Private.StepAskers.{goes_before, others_ask};
 ghost use Rattle.lw_search.specs.Private.SearchTurns.{IsAsked, IsFar, ServesAt, ServesItself};
 ghost use Rattle.lw_search.specs.Private.StepUse.{kept_of};
 
@@ -22,16 +23,49 @@ fn has_if(items: &[usize], wanted: bool, item: usize) -> bool
 }
 
 impl<R: StepRule> Tableau<'_, R> {
-    /// The component of the item, where it is a π of the label and the label's world doesn't serve it itself.
+    // Whether the item `other` asks in place of the ν `item`.
+    fn goes_before(&self, item: usize, other: usize) -> bool
+        requires { other < item_count self.now }
+        ensures { result ≡ goes_before self.now item other }
+    {
+        match self.closure.parts(other) {
+            Parts::Pi(_) => true,
+            Parts::Nu(_) => other < item,
+            Parts::Nothing | Parts::One(..) | Parts::Two(..) => false,
+        }
+    }
+
+    // Whether the label has an item that asks in place of the ν.
+    fn others_ask(&self, label: &Board, item: usize) -> bool
+        requires { IsOfItems self.now (top label.now.labels) }
+        ensures { result ≡ others_ask self.now (top label.now.labels) item }
+    {
+        for other in 0..self.item_count() {
+            if label.has(other) && self.goes_before(item, other) {
+                return true;
+            }
+        }
+        false
+    }
+
+    /// The component of the item, where the label asks for a step on it: it is a π that the label's world doesn't serve
+    /// itself, or in the serial logic a ν where nothing else asks.
     pub fn asked(&self, label: &Board, item: usize) -> Option<usize>
-        requires { item < item_count self.now }
+        requires item { item < item_count self.now }
+        requires items { IsOfItems self.now (top label.now.labels) }
         ensures { MatchOption result (ServesItself self.now (top label.now.labels) item) (IsAsked self.now (top label.now.labels) item) }
     {
         match self.closure.parts(item) {
             Parts::Pi(inner)
-                if label.has(item) && !(self.rule.is_reflexive() && label.has(inner)) => Some(
-                inner,
-            ),
+                if label.has(item) && !(self.rule.is_reflexive() && label.has(inner)) =>
+            {
+                Some(inner)
+            }
+            Parts::Nu(inner)
+                if self.rule.is_serial() && label.has(item) && !self.others_ask(label, item) =>
+            {
+                Some(inner)
+            }
             _ => None,
         }
     }
@@ -63,7 +97,7 @@ impl<R: StepRule> Tableau<'_, R> {
         true
     }
 
-    /// A world to which a link serves a π of the label with the component `inner`, in the logics with links.
+    /// A world to which a link serves an item of the label with the component `inner`, in the logics with links.
     pub fn target(&self, label: &Board, fragment: &Fragment, inner: usize) -> Option<usize>
         requires { IsOfItems self.now (top label.now.labels) }
         ensures { MatchOption result (IsFar self.now (top label.now.labels) fragment.now inner)

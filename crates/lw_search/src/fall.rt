@@ -9,7 +9,7 @@ use crate::level::{Level, Search};
 use crate::rule::StepRule;
 use crate::tableau::Tableau;
 use lw_proof::Proof;
-use lw_sat::{Board, step_over, unwind};
+use lw_sat::{Board, over_one, unwind};
 use std::alloc::{AllocError, Global};
 use std::mem;
 
@@ -30,7 +30,7 @@ impl<R: StepRule> Tableau<'_, R> {
     {
         let item = level.item;
         self.use_step(&mut level.board, &mut above, item);
-        let whole = step_over(alloc, self.closure, item, proof)?;
+        let whole = over_one(alloc, self.closure, self.step_rule(item), item, proof)?;
         unwind(
             alloc,
             self.closure,

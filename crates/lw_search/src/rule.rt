@@ -1,7 +1,7 @@
 ghost use Rattle.std.specs.Prelude.{◌≡◌, ℕ, ◌<◌, List, ◌∷◌, option_to_list};
 ghost use Rattle.lw_formula.specs.Formula.{Formula};
 ghost use Rattle.lw_formula.specs.declared.logic.Logic.{Logic};
-ghost use Rattle.lw_proof.specs.Derivation.{added, has_refl};
+ghost use Rattle.lw_proof.specs.Derivation.{added, has_refl, has_serial};
 ghost use Rattle.lw_closure.specs.Items.{items};
 ghost use Rattle.lw_closure.specs.Table.{Table, item_count, IsTable};
 ghost use Rattle.lw_counter.specs.FragmentPaths as paths;
@@ -25,6 +25,10 @@ pub trait StepRule {
     fn is_reflexive(&self) -> bool
         ensures { result ≡ has_refl logic };
 
+    /// Whether each world sees one: then a label with a ν and no π asks for a step.
+    fn is_serial(&self) -> bool
+        ensures { result ≡ has_serial logic };
+
     /// Whether a π may be served by a link to a world that is there already.
     fn has_links(&self) -> bool
         ensures { result ≡ paths.has_links logic };
@@ -37,7 +41,7 @@ pub trait StepRule {
     fn keeps_inside(&self) -> bool
         ensures { result ≡ step.keeps_inside logic };
 
-    /// The item that stands in the seed beside the component of the π `item`, if there is one.
+    /// The item that stands in the seed beside the component of the π or ν `item`, if there is one.
     fn beside(&self, closure: &Closure, item: usize) -> Option<usize>
         requires table { IsTable closure.now }
         requires logic { closure.now.logic ≡ logic }

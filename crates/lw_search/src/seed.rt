@@ -37,7 +37,7 @@ impl<R: StepRule> Tableau<'_, R> {
         }
     }
 
-    /// A board with the seed of the step from the label on the π `item`, whose component is `inner`.
+    /// A board with the seed of the step from the label on `item`, whose component is `inner`.
     pub fn plant(
         &self,
         alloc: Global,

@@ -1,4 +1,4 @@
-// The π of an unclosed label, served one after another.
+// The items of an unclosed label, served one after another.
 ghost use Rattle.std.specs.Prelude.{◌<◌, IfOk, OnOk};
 ghost use Rattle.lw_closure.specs.Table.{item_count};
 ghost use Rattle.lw_search.specs.Private.SearchLevels.{label, Aim, IsServing};
@@ -11,7 +11,7 @@ use std::alloc::{AllocError, Global};
 use std::mem;
 
 impl<R: StepRule> Tableau<'_, R> {
-    // Serves the π that the last level's item is, with the component `inner`, by a link. False: there is no world for one.
+    // Serves the last level's item, whose component is `inner`, by a link. False: there is no world for one.
     fn link(&self, search: &mut Search, inner: usize) -> Result<bool, AllocError>
         requires { (aim : Aim) × IsServing self.now aim search.old }
         ensures { (aim : Aim) → IsServing self.now aim search.old → IfOk result (LinkFits self.now aim search.old inner search.new) }
@@ -25,7 +25,7 @@ impl<R: StepRule> Tableau<'_, R> {
         }
     }
 
-    // Takes the step on the π that the last level's item is, with the component `inner`: its seed is under work.
+    // Takes the step on the last level's item, whose component is `inner`: its seed is under work.
     fn descend(&self, alloc: Global, search: &mut Search, inner: usize) -> Result<(), AllocError>
         requires serving { (aim : Aim) × IsServing self.now aim search.old }
         requires asked { IsAsked self.now (label search.old.level) search.old.level.item inner }

@@ -28,7 +28,7 @@ impl<R: StepRule> Tableau<'_, R> {
         Ok(items)
     }
 
-    /// Puts the last level's label, which is unclosed, behind the worlds. Its π are served from the first item on.
+    /// Puts the last level's label, which is unclosed, behind the worlds. Its items are served from the first on.
     pub fn settle(&self, alloc: Global, search: &mut Search) -> Result<(), AllocError>
         requires work { (aim : Aim) × IsUnderWork self.now aim search.old }
         requires unclosed { IsUnclosedLabel self.now (label search.old.level) }

@@ -1,7 +1,7 @@
--- Why a search in K or KT ends: a step goes to formulas of a smaller modal depth.
+-- Why a search in K, KT or KD ends: a step goes to formulas of a smaller modal depth.
 use Rattle.std.specs.Prelude.{ℕ, Bool, true, false, not, ◌&&◌, nat_lt, List}
 use Rattle.lw_formula.specs.declared.logic.Logic.{Logic}
-use Rattle.lw_formula.specs.declared.logic.Logic.TheVariants.{K, KT}
+use Rattle.lw_formula.specs.declared.logic.Logic.TheVariants.{K, KT, KD}
 use Rattle.lw_formula.specs.Formula.{Formula, depth}
 use Rattle.lw_pool.specs.Region.{tree_at}
 use Rattle.lw_proof.specs.System.{Set}
@@ -9,10 +9,11 @@ use Rattle.lw_closure.specs.Table.{Table, item_count, signed_of}
 use Rattle.lw_closure.specs.Items.{any_below}
 use Rattle.lw_search.specs.Ranked.{Ranking}
 
--- KT where worlds see themselves, and else K
-abbrev pub logic_of : Bool → Logic
-logic_of true = KT
-logic_of false = K
+-- KT where worlds see themselves, else KD where each sees one, and else K
+abbrev pub logic_of : Bool → Bool → Logic
+logic_of true serial = KT
+logic_of false true = KD
+logic_of false false = K
 
 -- the modal depth of the item's formula
 abbrev pub item_depth : List Formula → Table → ℕ → ℕ

@@ -1,12 +1,13 @@
 -- The levels of a search: the labels on the path from the goal to the label under work, each a saturation of its own seed.
 use Rattle.std.specs.Prelude.{◌≡◌, ℕ, zero, suc, ◌+◌, ◌-◌, ◌*◌, ◌<◌, ◌≤◌, Bool, false, IsTrue, ⊤, None, List, [], ◌∷◌, length}
+use Rattle.lw_formula.specs.declared.parts.Parts.TheVariants.{Pi}
 use Rattle.lw_pool.specs.declared.id.SignedId.{SignedId}
 use Rattle.lw_model.specs.Bounds.{tree_size}
 use Rattle.lw_proof.specs.System.{Set, IsWithin}
 use Rattle.lw_proof.specs.Tree.{Tree}
 use Rattle.lw_proof.specs.Lean.{steps}
-use Rattle.lw_proof.specs.Derivation.{has_cut}
-use Rattle.lw_closure.specs.Table.{Table, item_count, IsTable}
+use Rattle.lw_proof.specs.Derivation.{has_cut, has_serial, is_nu}
+use Rattle.lw_closure.specs.Table.{Table, entry_at, item_count, IsTable}
 use Rattle.lw_closure.specs.Unclosed.{IsUnclosedLabel}
 use Rattle.lw_counter.specs.Fragment.{Fragment, cut_to}
 use Rattle.lw_sat.specs.Moves.{Survives}
@@ -17,6 +18,7 @@ use Rattle.lw_search.specs.declared.level.Level.{Level}
 use Rattle.lw_search.specs.declared.level.Search.{Search}
 use Rattle.lw_search.specs.Ranked.{Past, LeadsTo, AsksFor}
 use Rattle.lw_search.specs.Private.SearchWorlds.{last_world, IsSound}
+use Rattle.lw_search.specs.Private.StepAskers.{may_ask}
 use Rattle.lw_search.specs.Step.{askers, count_below, is_asker, seed}
 
 -- what a search is after: to close the seed, or to find it a world, in so many Steps, one above the other. The test tells of a label to which a
@@ -26,14 +28,15 @@ pub record Aim : Type 0 where
   pub seed : Set ℕ
   pub bound : ℕ
 
--- the test does what is asked of a ranking, for one table
+-- the test does what is asked of a ranking, for one table, which has an asker wherever a ν may ask
 pub record Guides (t : Table) (rank : List Past → ℕ → Set ℕ → Bool) : Type 0 where
   pub table : IsTable t
   pub uncut : has_cut t.logic ≡ false
+  pub some : IsTrue (has_serial t.logic) → (i : ℕ) → i < item_count t → IsTrue (is_nu (entry_at t i).parts) → 0 < askers t
   pub goes_on : (path : List Past) (n : ℕ) → Survives t (rank path n)
   pub falls :
       (path : List Past) (n : ℕ) (X : Set ℕ) (item c w : ℕ) → IsTrue (rank path n X) → AsksFor t path X item c →
-      (0 < n) × IsTrue (is_asker t item) × IsTrue (rank ((record { world = w; label = X; item = item }) ∷ path) (n - 1) (seed t X item c))
+      (0 < n) × ((entry_at t item).parts ≡ Pi c → IsTrue (is_asker t item)) × IsTrue (rank ((record { world = w; label = X; item = item }) ∷ path) (n - 1) (seed t X item c))
 
 -- where a level stands: its seed, the number of Steps that are left, the path to it, and the fragment as it was when the level began
 pub record Place : Type 0 where
@@ -72,7 +75,7 @@ abbrev pub child_size : ℕ → ℕ → ℕ
 child_size m zero = 0
 child_size m (suc n) = tree_size m n
 
--- the level at the place a has an unclosed label, which is that of its world, and the π before its item are served
+-- the level at the place a has an unclosed label, which is that of its world, and the items before its own are served
 pub record Serves (t : Table) (aim : Aim) (a : Place) (l : Level) (f : Fragment) : Type 0 where
   pub place : IsPlace t aim a
   pub at : IsAt t a.seed (aim.rank a.path a.left) l.frames.items l.board
@@ -83,7 +86,7 @@ pub record Serves (t : Table) (aim : Aim) (a : Place) (l : Level) (f : Fragment)
   pub world : l.world ≡ length a.fragment.worlds
   pub back : cut_to l.world f ≡ a.fragment
   pub sound : IsSound t aim.bound aim.seed (past l ∷ a.path) f
-  pub few : length f.worlds ≤ l.world + 1 + count_below (is_asker t) l.item * child_size (askers t) a.left
+  pub few : length f.worlds ≤ l.world + 1 + count_below (may_ask t (label l)) l.item * child_size (askers t) a.left
 
 -- the place to which the step on the level's item with the component c leads
 abbrev pub above : Table → Place → Level → ℕ → Fragment → Place
@@ -94,6 +97,7 @@ pub record Waits (t : Table) (aim : Aim) (a : Place) (l : Level) (b : Place) : T
   pub serves : Serves t aim a l b.fragment
   pub inner : ℕ
   pub asks : AsksFor t a.path (label l) l.item inner
+  pub may : IsTrue (may_ask t (label l) l.item)
   pub next : b ≡ above t a l inner b.fragment
 
 -- the levels wait one on the other, from the place a to the place c
@@ -125,7 +129,7 @@ pub record IsUnderWork (t : Table) (aim : Aim) (s : Search) : Type 0 where
   pub steps : most_steps s.level.frames.items ≤ stands.place.left
   pub parent : s.level.parent ≡ last_world stands.place.path
 
--- the last level's label is unclosed, and its π are served one after another
+-- the last level's label is unclosed, and its items are served one after another
 pub record IsServing (t : Table) (aim : Aim) (s : Search) : Type 0 where
   pub guides : Guides t aim.rank
   pub place : Place
@@ -166,7 +170,7 @@ held_room n k (l ∷ ls) = waiting_room n k l + held_room n (k - 1) ls
 abbrev pub work_room : Table → ℕ → Search → ℕ
 work_room t k s = held_room (item_count t) k s.below.items + room s.level.board * unit (item_count t) (k - length s.below.items)
 
--- what is left to do where the π of a label are served
+-- what is left to do where the items of a label are served
 abbrev pub serving_room : Table → ℕ → Search → ℕ
 serving_room t k s =
     let left = k - length s.below.items in

@@ -1,8 +1,8 @@
 -- What the calls of a search come to.
 use Rattle.std.specs.Prelude.{◌≡◌, ℕ, ◌+◌, ◌<◌, ◌≤◌, Bool, true, false, IsTrue, Option, Some, None, length}
-use Rattle.lw_formula.specs.declared.parts.Parts.TheVariants.{Pi}
+use Rattle.lw_formula.specs.declared.parts.Parts.TheVariants.{Nu, Pi}
 use Rattle.lw_pool.specs.declared.id.SignedId.{SignedId}
-use Rattle.lw_proof.specs.Derivation.{has_refl}
+use Rattle.lw_proof.specs.Derivation.{has_refl, has_serial, is_nu}
 use Rattle.lw_proof.specs.Lean.{steps}
 use Rattle.lw_proof.specs.System.{Set}
 use Rattle.lw_proof.specs.Tree.{Tree}
@@ -22,17 +22,21 @@ use Rattle.lw_search.specs.declared.level.Turn.{Turn}
 use Rattle.lw_search.specs.declared.level.Turn.TheVariants as turn
 use Rattle.lw_search.specs.Explored.{IsExplored}
 use Rattle.lw_search.specs.Private.SearchLevels.{Aim, Guides, Place, Waits, IsFallen, IsServing, IsUnderWork, fallen_room, label, serving_room, work_room}
-use Rattle.lw_search.specs.Ranked.{IsServedBy}
+use Rattle.lw_search.specs.Private.StepAskers.{asks_alone, others_ask}
+use Rattle.lw_search.specs.Ranked.{IsServedBy, StepsTo}
 
--- the label asks for a step on the π `item`, or for a link, with the component c: it has the π, and where worlds see themselves not the component
+-- the label asks for a step on `item`, or for a link, with the component c: it has the item, where worlds see themselves not the component of a π,
+-- and a ν asks alone
 pub record IsAsked (t : Table) (X : Set ℕ) (item c : ℕ) : Type 0 where
   pub there : IsTrue (X item)
-  pub parts : (entry_at t item).parts ≡ Pi c
+  pub steps : StepsTo t item c
   pub alone : IsTrue (has_refl t.logic) → ¬ IsTrue (X c)
+  pub first : (entry_at t item).parts ≡ Nu c → IsTrue (asks_alone t X item)
 
--- the label serves the item itself, if it is a π that it has
-abbrev pub ServesItself : Table → Set ℕ → ℕ → Type 0
-ServesItself t X item = (c : ℕ) → IsTrue (X item) → (entry_at t item).parts ≡ Pi c → IsTrue (has_refl t.logic) × IsTrue (X c)
+-- the item asks for nothing: the label serves it itself, if it is a π that it has, and another item asks in its place, if it is a ν of the serial logic
+pub record ServesItself (t : Table) (X : Set ℕ) (item : ℕ) : Type 0 where
+  pub pi : (c : ℕ) → IsTrue (X item) → (entry_at t item).parts ≡ Pi c → IsTrue (has_refl t.logic) × IsTrue (X c)
+  pub nu : IsTrue (has_serial t.logic) → IsTrue (X item) → IsTrue (is_nu (entry_at t item).parts) → IsTrue (others_ask t X item)
 
 -- no link to a world of the fragment serves a π with the component c of the label
 abbrev pub IsFar : Table → Set ℕ → Fragment → ℕ → Type 0

@@ -2,10 +2,17 @@ use Rattle.std.proofs.Common.{◌++◌, ◌∷◌, [], ap, refl, ◌∙◌}
 use Rattle.lw_sat.specs.SeedPath.{spot_of}
 use Rattle.lw_search.specs.declared.level.Level.{Level}
 use Rattle.lw_search.proofs.NextStates.{descended, label_items}
+use Rattle.lw_search.proofs.StepSeeds.{inner_below}
 use Rattle.lw_search.proofs.tableau.Tableau.descend.Goals as goal
 
 pub plant-requires-clause-items : goal.plant-requires-clause-items
 plant-requires-clause-items g c = label_items _ _ _ c.args.search.now.level c.requires.serving.1.serves.at
+
+pub plant-requires-clause-inner : goal.plant-requires-clause-inner
+plant-requires-clause-inner g c =
+    let h = c.requires.serving.1 in
+    let asked = c.requires.asked in
+    inner_below _ h.guides.table _ _ (label_items _ _ _ c.args.search.now.level h.serves.at _ asked.there) asked.steps
 
 pub returns : goal.returns
 returns g c aim h =

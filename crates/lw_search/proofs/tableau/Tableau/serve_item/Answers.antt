@@ -1,10 +1,9 @@
 use Rattle.std.proofs.Common.{◌≡◌, ◌+◌, sym, ap, subst, refl, ◌∙◌}
-use Rattle.lw_formula.specs.declared.parts.Parts.TheVariants.{Pi}
-use Rattle.lw_closure.specs.Table.{entry_at}
 use Rattle.lw_search.specs.declared.level.Search.{Search}
 use Rattle.lw_search.specs.declared.level.Served.TheVariants.{Done}
 use Rattle.lw_search.specs.Private.SearchTurns.{StepFits}
-use Rattle.lw_search.proofs.NextStates.{item_done, itself_witness}
+use Rattle.lw_search.specs.Ranked.{StepsTo}
+use Rattle.lw_search.proofs.NextStates.{item_done, itself_served, label_items, witness_serves}
 use Rattle.lw_search.proofs.tableau.Tableau.serve_item.Goals as goal
 use Rattle.lw_search.proofs.tableau.Tableau.serve_item.Goals.{in-Some+in_ok-link+else-not-branch, in_default}
 
@@ -24,6 +23,9 @@ descend-requires-clause-far g c =
     let fits = rw c.if-not-branch.true at (c.in_ok-link.ensures c.requires.serving.0 c.requires.serving.1) in
     rw fits.0 fits.1
 
+pub asked-requires-clause-items : goal.asked-requires-clause-items
+asked-requires-clause-items g c = label_items _ _ _ c.args.search.now.level c.requires.serving.1.serves.at
+
 pub returns-then-not-branch : goal.returns-then-not-branch
 returns-then-not-branch g c aim h =
     let fits = rw c.if-not-branch.true at (c.in_ok-link.ensures aim h) in
@@ -38,9 +40,8 @@ returns g c aim h =
       | in-Some+in_ok-link+else-not-branch w ↦ (
           let fits = rw w.if-not-branch.false at (w.in_ok-link.ensures aim h) in
           let item = ap (λ l. l.item) fits.2 in
-          subst done (sym w.search-is) (item_done t aim s w.link.new.search fits.0 fits.2 fits.3 c.requires.item (λ k there parts.
-          (let inner : w.in-Some.inner ≡ k = (let both : Pi w.in-Some.inner ≡ Pi k = sym w.in-Some.ensures.parts ∙ ap (λ i. (entry_at t i).parts) (sym item) ∙ parts in cc) in
-          rw inner at fits.1)))
+          subst done (sym w.search-is) (item_done t aim s w.link.new.search fits.0 fits.2 fits.3 c.requires.item
+          (witness_serves t w.link.new.search w.in-Some.inner (subst (λ i. StepsTo t i w.in-Some.inner) (sym item) w.in-Some.ensures.steps) fits.1))
           )
-      | in_default w ↦ subst done (sym w.search-is) (item_done t aim s s h refl refl c.requires.item (itself_witness t aim s h c.requires.item w.in_default.ensures))
+      | in_default w ↦ subst done (sym w.search-is) (item_done t aim s s h refl refl c.requires.item (itself_served t aim s h c.requires.item w.in_default.ensures))
     ]
