@@ -9,7 +9,7 @@ use Rattle.lw_formula.specs.declared.logic.Logic.TheVariants.{S5}
 use Rattle.lw_formula.specs.declared.parts.Parts.{Parts}
 use Rattle.lw_formula.specs.declared.parts.Parts.TheVariants.{Pi}
 use Rattle.lw_proof.specs.System.{Set, IsWithin}
-use Rattle.lw_proof.specs.Derivation.{has_cut, is_modal_part, kept}
+use Rattle.lw_proof.specs.Derivation.{has_cut, has_serial, is_modal_part, kept}
 use Rattle.lw_closure.specs.Items.{items}
 use Rattle.lw_closure.specs.Table.{Table, entry_at, flip_item, item_count}
 use Rattle.lw_closure.specs.Unclosed.{IsUnclosedLabel}
@@ -196,6 +196,7 @@ module _ (t : Table) (R : Set ℕ) (f : Fragment) (logic : t.logic ≡ S5) (alik
         ]
       ];
     };
+    serial = λ serial. absurd (false≢true (sym (ap has_serial logic) ∙ serial));
   }
 
   abbrev height : ℕ → ℕ
