@@ -2,12 +2,11 @@
 use Rattle.std.proofs.Common.{◌≡◌, ℕ, ◌+◌, suc, min, Bool, List, [], ◌∷◌, length, map, Option, None, Some, slice_get, refl, sym, ap, ◌∙◌, arith}
 use Rattle.std.below.core.specs.declared.int.usize.TheConstants as usize
 use Rattle.lw_formula.specs.declared.logic.Logic.{Logic}
-use Rattle.lw_formula.specs.declared.parts.Parts.{Parts}
 use Rattle.lw_formula.specs.Formula.{Formula}
 use Rattle.lw_formula.specs.Signed.{SignedSet}
 use Rattle.lw_formula.specs.Components.{parts_of}
 use Rattle.lw_pool.specs.declared.id.SignedId.{SignedId}
-use Rattle.lw_pool.specs.Region.{IsLive, Grows, signed_at, parts_at, ArePartsBelow, is_marked}
+use Rattle.lw_pool.specs.Region.{IsLive, Grows, signed_at, is_marked}
 use Rattle.lw_proof.specs.declared.rule.Rule.{Rule}
 use Rattle.lw_proof.specs.declared.why.Why.{Why}
 use Rattle.lw_proof.specs.Tree.{Tree, node, none, more, forest, subs_of, rule_of, principal_of, map_forest, lines, lines_all}
@@ -18,10 +17,11 @@ use Rattle.lw_proof.specs.Pooled.{proof_at, IsProofLive}
 use Rattle.lw_check.specs.declared.walked.Walked.{Walked}
 use Rattle.lw_check.specs.declared.walked.Walked.TheVariants.{Through, Broken}
 use Rattle.lw_sets.specs.IdSets.{among, set_of, AreLive}
-use Rattle.lw_check.specs.Private.LeftSets.{left_by, Leaves}
+use Rattle.lw_check.specs.declared.premise.Left.{Left}
+use Rattle.lw_check.specs.Private.LeftSets.{left_of, Leaves}
 use Rattle.lw_check.specs.Private.ProofWalk.{AreCuts, TellsReason, outcome_of, Tells, TellsAll}
 use Rattle.lw_pool.proofs.RegionGrowth.{Grows-trans}
-use Rattle.lw_sets.proofs.GrownPools.{signed_grows, listed_grows, parts_grow}
+use Rattle.lw_sets.proofs.GrownPools.{signed_grows, listed_grows}
 use Rattle.lw_proof.proofs.FirstSubproofs.{each_sub, each_first, count_mapped, forest_mapped, lines_mapped, lines_first, no_member, one_member, two_members}
 
 -- a step that keeps its rule leaves the breaks of the subproofs
@@ -63,33 +63,27 @@ module _ (L : Logic) (now : List Formula) (marks : List Bool) (xs : List SignedI
       (λ i. Broken (e i) why)
       ∙ ap (λ (b : Option (ℕ × Why)). outcome_of b (n + lines t)) (sym (broken_step cuts L ts (set_of ts xs) t n why (reason_grows (Some why) told cuts ts g k)))
 
-  -- the step keeps its rule, and the subproofs are to close what the components p leave
-  pub tells_kept : (r : Rule) (x : SignedId) → r ≡ rule_of t → x ≡ principal_of t → (later : List Formula) (p : Parts SignedId) (step next : ℕ) (outcome : Walked) → Grows now later →
-      TellsReason L now marks xs t None → ArePartsBelow (length now) p →
-      Leaves r (signed_at now x) (parts_at now p) →
+  -- the step keeps its rule, and the subproofs are to close what is left
+  pub tells_kept : (r : Rule) (x : SignedId) → r ≡ rule_of t → x ≡ principal_of t → (later : List Formula) (left : Left) (step next : ℕ) (outcome : Walked) → Grows now later →
+      TellsReason L now marks xs t None → Leaves now r x left →
       ((n : ℕ) → step ≡ min n usize.MAX → next ≡ min (suc n) usize.MAX) →
-      TellsAll L later marks (λ ts. left_by L (signed_at ts (principal_of t)) (parts_at ts p) (set_of ts xs)) t next outcome →
+      TellsAll L later marks (left_of L x left xs) t next outcome →
       Tells L later marks (λ ts. set_of ts xs) t step outcome
-  tells_kept r x er ex later p step next outcome grown told below sets count all cuts ts n g k e =
+  tells_kept r x er ex later left step next outcome grown told sets count all cuts ts n g k e =
       all cuts ts (suc n) g k (count n e)
       ∙ (λ i. outcome_of (sym whole i) (same_end i))
     where
       since : Grows now ts
       since = Grows-trans now later ts grown g
 
-      s : signed_at ts (principal_of t) ≡ signed_at now x
-      s = signed_grows now ts since (principal_of t) (first_live) ∙ ap (signed_at now) (sym ex)
-
-      left : premises trees L (rule_of t) (signed_at ts (principal_of t)) (parts_of (signed_at ts (principal_of t))) (set_of ts xs)
-          ≡ left_by L (signed_at ts (principal_of t)) (parts_at ts p) (set_of ts xs)
-      left =
-          (λ i. premises trees L (sym er i) (s i) (parts_of (s i)) (set_of ts xs))
-          ∙ sets L (set_of ts xs)
-          ∙ (λ i. left_by L (sym s i) (sym (parts_grow now ts since p below) i) (set_of ts xs))
+      told_sets : premises trees L (rule_of t) (signed_at ts (principal_of t)) (parts_of (signed_at ts (principal_of t))) (set_of ts xs) ≡ left_of L x left xs ts
+      told_sets =
+          (λ i. premises trees L (sym er i) (signed_at ts (sym ex i)) (parts_of (signed_at ts (sym ex i))) (set_of ts xs))
+          ∙ sets L ts since xs
 
       whole : break_from trees cuts L (set_of ts xs) n (proof_at ts t)
-          ≡ breaks_from trees cuts L (left_by L (signed_at ts (principal_of t)) (parts_at ts p) (set_of ts xs)) (suc n) (forest (map (λ u. proof_at ts u) (subs_of t)))
-      whole = kept_step cuts L ts (set_of ts xs) (left_by L (signed_at ts (principal_of t)) (parts_at ts p) (set_of ts xs)) t n (reason_grows None told cuts ts since k) left
+          ≡ breaks_from trees cuts L (left_of L x left xs ts) (suc n) (forest (map (λ u. proof_at ts u) (subs_of t)))
+      whole = kept_step cuts L ts (set_of ts xs) (left_of L x left xs ts) t n (reason_grows None told cuts ts since k) told_sets
 
       same_end : suc n + lines_all (forest (subs_of t)) ≡ n + lines t
       same_end = let h = lines_first t in omega (arith, h)

@@ -9,14 +9,14 @@ ghost use Rattle.lw_sets.specs.IdSets.{set_of, AreLive, with_side};
 ghost use Rattle.lw_check.specs.Private.LeftSets.{with_each};
 ghost use Rattle.lw_check.specs.Private.ProofWalk.{Tells, TellsAll};
 
-use crate::premise::left;
+use crate::premise::{Left, left_by};
 use crate::step::refusal;
 use crate::verdict::Verdict;
 use crate::walked::Walked;
-use lw_formula::{Logic, Parts, Sign};
+use lw_formula::{Logic, Sign};
 use lw_pool::{FormId, Pool, SignedId};
 use lw_proof::{Proof, SignedIds};
-use lw_sets::{add_side, stepped};
+use lw_sets::{add_side, kept_items, stepped};
 use std::alloc::{AllocError, Global};
 
 /// Whether the proof proves the goal in the logic, and else the first step that breaks its rule, with the first reason.
@@ -66,17 +66,17 @@ fn walk(
         return Ok(Walked::Broken { step, why });
     }
     let next = step.saturating_add(1);
-    match left(pool, proof.rule(), proof.principal()) {
-        Parts::Nothing => Ok(Walked::Through { next }),
-        Parts::One(first, second) => {
-            let part = proof.sub(0);
-            extended(pool, logic, cuts, items, (first, second), part, next)
+    match left_by(pool, proof.rule(), proof.principal()) {
+        Left::Nothing => Ok(Walked::Through { next }),
+        Left::One(side) => extended(pool, logic, cuts, items, side, proof.sub(0), next),
+        Left::Two(one, other) => split(pool, logic, cuts, items, (one, other), proof, next),
+        Left::Stepped(part) => {
+            let mut seen = stepped(pool, logic, items, proof.principal(), part)?;
+            walk(pool, logic, cuts, &mut seen, proof.sub(0), next)
         }
-        Parts::Two(one, other) => split(pool, logic, cuts, items, (one, other), proof, next),
-        Parts::Nu(part) => { extended(pool, logic, cuts, items, (part, None), proof.sub(0), next) }
-        Parts::Pi(part) => {
-            let mut left = stepped(pool, logic, items, proof.principal(), part)?;
-            walk(pool, logic, cuts, &mut left, proof.sub(0), next)
+        Left::Kept => {
+            let mut kept = kept_items(pool, logic, items)?;
+            walk(pool, logic, cuts, &mut kept, proof.sub(0), next)
         }
     }
 }

@@ -11,7 +11,7 @@ ghost use Rattle.lw_check.specs.Private.ProofWalk.{TellsReason};
 
 use lw_formula::{Logic, Parts, Sign};
 use lw_pool::{FormId, Pool, SignedId};
-use lw_proof::{Proof, Rule, SignedIds, Why, has_cut, has_refl};
+use lw_proof::{Proof, Rule, SignedIds, Why, has_cut, has_refl, has_serial};
 use lw_sets::has;
 
 /// Why the first step of the proof breaks its rule, where the items are to be closed and the marked formulas may be
@@ -55,6 +55,7 @@ fn in_logic(logic: Logic, rule: Rule) -> bool
     match rule {
         Rule::Close | Rule::Absurd | Rule::One | Rule::Two | Rule::Step => true,
         Rule::Refl => has_refl(logic),
+        Rule::Serial => has_serial(logic),
         Rule::Cut => has_cut(logic),
     }
 }
@@ -72,6 +73,7 @@ fn fits(pool: &Pool, rule: Rule, item: SignedId) -> bool
         Rule::Two => matches!(parts, Parts::Two(_, _)),
         Rule::Refl => matches!(parts, Parts::Nu(_)),
         Rule::Step => matches!(parts, Parts::Pi(_)),
+        Rule::Serial => matches!(parts, Parts::Nu(_)),
         Rule::Cut => {
             matches!(item.sign, Sign::T) && matches!(parts, Parts::Nu(_) | Parts::Pi(_))
         }
@@ -86,7 +88,9 @@ fn present(pool: &Pool, items: &SignedIds, rule: Rule, item: SignedId) -> bool
 {
     match rule {
         Rule::Close => has(pool, items, item) && has(pool, items, item.flip()),
-        Rule::Absurd | Rule::One | Rule::Two | Rule::Refl | Rule::Step => has(pool, items, item),
+        Rule::Absurd | Rule::One | Rule::Two | Rule::Refl | Rule::Step | Rule::Serial => {
+            has(pool, items, item)
+        }
         Rule::Cut => true,
     }
 }
@@ -96,7 +100,13 @@ fn allowed(cuts: &[bool], rule: Rule, form: FormId) -> bool
     ensures { (C : SignedSet) (s : Signed) → region.is_marked cuts.now form.0 ≡ C s → result ≡ breaks.in_goal trees C rule s }
 {
     match rule {
-        Rule::Close | Rule::Absurd | Rule::One | Rule::Two | Rule::Refl | Rule::Step => true,
+        Rule::Close
+        | Rule::Absurd
+        | Rule::One
+        | Rule::Two
+        | Rule::Refl
+        | Rule::Step
+        | Rule::Serial => true,
         Rule::Cut => is_marked(cuts, form),
     }
 }

@@ -19,7 +19,7 @@ use Rattle.lw_proof.proofs.StepWorlds.{sees_itself, target}
 use Rattle.lw_interp.specs.Interpolant.{has_interpolants}
 use Rattle.lw_interp.specs.Laws.{ReadOffIsInterpolant, ReadOffIsSmall}
 use Rattle.lw_interp.specs.Maehara.{Sides, splits, joined, read_off, read_all, start, interpolant_of}
-use Rattle.lw_interp.proofs.SidePieces.{Split, AreSplit, premises_split, on_side, no_cut, start_split}
+use Rattle.lw_interp.proofs.SidePieces.{Split, AreSplit, premises_split, on_side, no_serial, no_cut, start_split}
 use Rattle.lw_interp.proofs.StepInterpolants.{Between, Reaches, put_between, two_between, step_between, absurd_between, close_between}
 
 module _ (L : Logic) (known : IsTrue (has_interpolants L)) (a b : Formula) where
@@ -92,6 +92,7 @@ module _ (L : Logic) (known : IsTrue (has_interpolants L)) (a b : Formula) where
   joins cuts Rule.Two s X W ts h c g = two_joins s X W h (parts_of s) ts c.0 (on_side a b W s (h.cover s c.1) (no_root s (λ t. is_two (parts_of t)) refl c.0)) (λ m w x. means m w s x) g
   joins cuts Rule.Refl s X W ts h c g = refl_joins s X W h (parts_of s) ts c.1 c.0 (λ m w x. means m w s x) g
   joins cuts Rule.Step s X W ts h c g = step_at s X W h ts c.0 (on_side a b W s (h.cover s c.1) (no_root s (λ t. is_pi (parts_of t)) refl c.0)) g
+  joins cuts Rule.Serial s X W ts h c g = absurd (no_serial L known c.0)
   joins cuts Rule.Cut s X W ts h c g = absurd (no_cut L known c.0)
 
   module _ (cuts : SignedSet) where

@@ -34,6 +34,7 @@ module _ (L : Logic) (W : Sides) (s : Signed) where
   none_joined Rule.Two p ts h e = never (is_two p) (ap (λ (q : Parts Signed). is_two q) e) h
   none_joined Rule.Refl p ts h e = never (is_nu p) (ap (λ (q : Parts Signed). is_nu q) e) h
   none_joined Rule.Step p ts h e = never (is_pi p) (ap (λ (q : Parts Signed). is_pi q) e) h
+  none_joined Rule.Serial p ts h e = refl
   none_joined Rule.Cut p ts h e = refl
 
   one_joined : (r : Rule) (p : Parts Signed) (c : Signed) (d : Option Signed) (t : Tree Signed) → IsTrue (takes r p) → components_of r p ≡ One c d →
@@ -45,6 +46,7 @@ module _ (L : Logic) (W : Sides) (s : Signed) where
   one_joined Rule.Two p c d t h e = never (is_two p) (ap (λ (q : Parts Signed). is_two q) e) h
   one_joined Rule.Refl p c d t h e = never (is_nu p) (ap (λ (q : Parts Signed). is_nu q) e) h
   one_joined Rule.Step p c d t h e = never (is_pi p) (ap (λ (q : Parts Signed). is_pi q) e) h
+  one_joined Rule.Serial p c d t h e = absurd (cc)
   one_joined Rule.Cut p c d t h e = absurd (cc)
 
   two_joined : (r : Rule) (p : Parts Signed) (a b : Signed × Option Signed) (t u : Tree Signed) → IsTrue (takes r p) → components_of r p ≡ Two a b →
@@ -58,6 +60,7 @@ module _ (L : Logic) (W : Sides) (s : Signed) where
       ≡ of_two (W.left s) (read_off L (put_beside W s (side a.0 a.1) W) t) (read_off L (put_beside W s (side b.0 b.1) W) u)) (sym e) refl
   two_joined Rule.Refl p a b t u h e = never (is_nu p) (ap (λ (q : Parts Signed). is_nu q) e) h
   two_joined Rule.Step p a b t u h e = never (is_pi p) (ap (λ (q : Parts Signed). is_pi q) e) h
+  two_joined Rule.Serial p a b t u h e = absurd (cc)
   two_joined Rule.Cut p a b t u h e = absurd (cc)
 
   nu_joined : (r : Rule) (p : Parts Signed) (c : Signed) (t : Tree Signed) → IsTrue (takes r p) → components_of r p ≡ Nu c →
@@ -69,6 +72,7 @@ module _ (L : Logic) (W : Sides) (s : Signed) where
   nu_joined Rule.Refl p c t h e =
       subst (λ (q : Parts Signed). joined Rule.Refl s W (read_all L (splits L Rule.Refl s q W) (more t none)) ≡ read_off L (put_beside W s (c ∷ []) W) t) (sym e) refl
   nu_joined Rule.Step p c t h e = never (is_pi p) (ap (λ (q : Parts Signed). is_pi q) e) h
+  nu_joined Rule.Serial p c t h e = absurd (cc)
   nu_joined Rule.Cut p c t h e = absurd (cc)
 
   pi_joined : (r : Rule) (p : Parts Signed) (c : Signed) (t : Tree Signed) → IsTrue (takes r p) → components_of r p ≡ Pi c →
@@ -81,6 +85,7 @@ module _ (L : Logic) (W : Sides) (s : Signed) where
   pi_joined Rule.Step p c t h e =
       subst (λ (q : Parts Signed). joined Rule.Step s W (read_all L (splits L Rule.Step s q W) (more t none))
       ≡ of_step (W.left s) (read_off L (put_beside W s (added trees L s c) (kept_sides L W)) t)) (sym e) refl
+  pi_joined Rule.Serial p c t h e = absurd (cc)
   pi_joined Rule.Cut p c t h e = absurd (cc)
 
 module _ (L : Logic) (ts : List Formula) (W : Sides) where

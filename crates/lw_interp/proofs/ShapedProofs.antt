@@ -22,7 +22,7 @@ use Rattle.lw_proof.proofs.FirstSubproofs.{each_sub, count_mapped}
 use Rattle.lw_sets.proofs.GrownPools.{IsProofLive_grows, proof_grows}
 use Rattle.lw_interp.specs.Interpolant.{has_interpolants}
 use Rattle.lw_interp.specs.Private.ReadSteps.{components_of, takes, IsShaped, AreShaped, IsReadable}
-use Rattle.lw_interp.proofs.SidePieces.{no_cut}
+use Rattle.lw_interp.proofs.SidePieces.{no_serial, no_cut}
 
 module _ (L : Logic) (known : IsTrue (has_interpolants L)) (cuts : SignedSet) where
   taken : (r : Rule) (s : Signed) (X : SignedSet) → Applies trees cuts L X r s → IsTrue (takes r (parts_of s))
@@ -32,6 +32,7 @@ module _ (L : Logic) (known : IsTrue (has_interpolants L)) (cuts : SignedSet) wh
   taken Rule.Two s X a = a.0
   taken Rule.Refl s X a = a.1
   taken Rule.Step s X a = a.0
+  taken Rule.Serial s X a = absurd (no_serial L known a.0)
   taken Rule.Cut s X a = absurd (no_cut L known a.0)
 
   -- a rule has as many premises as its number says
@@ -58,6 +59,7 @@ module _ (L : Logic) (known : IsTrue (has_interpolants L)) (cuts : SignedSet) wh
   premise_count Rule.Two s p X e = two_premises s p X e
   premise_count Rule.Refl s p X e = nu_premise s p X e
   premise_count Rule.Step s p X e = pi_premise s p X e
+  premise_count Rule.Serial s p X e = absurd (false≢true e)
   premise_count Rule.Cut s p X e = absurd (false≢true e)
 
   -- a proof that closes a set has its shape
@@ -112,6 +114,7 @@ counted Rule.Refl (Nu c) e = refl
 counted Rule.Refl _ e = absurd (false≢true e)
 counted Rule.Step (Pi c) e = refl
 counted Rule.Step _ e = absurd (false≢true e)
+counted Rule.Serial p e = absurd (false≢true e)
 counted Rule.Cut p e = absurd (false≢true e)
 
 -- a step has as many subproofs

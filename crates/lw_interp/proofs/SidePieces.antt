@@ -4,7 +4,7 @@ use Rattle.std.specs.Bool.{IsTrue, ⊤}
 use Rattle.std.specs.List.{list_any}
 use Rattle.std.proofs.lemmas.Bool.{false≢true, or_cases, or_left, or_right, and_parts, and_from}
 use Rattle.lw_formula.specs.declared.logic.Logic.{Logic}
-use Rattle.lw_formula.specs.declared.logic.Logic.TheVariants.{K, KT, S4, S5, GL, Grz}
+use Rattle.lw_formula.specs.declared.logic.Logic.TheVariants.{K, KT, S4, S5, GL, Grz, K4, KD}
 use Rattle.lw_formula.specs.declared.sign.Sign.TheVariants.{T, F}
 use Rattle.lw_formula.specs.declared.parts.Parts.{Parts}
 use Rattle.lw_formula.specs.declared.parts.Parts.TheVariants.{Nothing, One, Two, Nu, Pi}
@@ -14,7 +14,7 @@ use Rattle.lw_formula.specs.Signed.{Signed, SignedSet, flip}
 use Rattle.lw_formula.specs.Components.{parts_of}
 use Rattle.lw_proof.specs.declared.rule.Rule.{Rule}
 use Rattle.lw_proof.specs.System.{IsWithin, trees, same_signed, nu_of}
-use Rattle.lw_proof.specs.Derivation.{is_one, is_two, is_nu, is_pi, has_cut, side, plus, kept, added, premises, Applies, only}
+use Rattle.lw_proof.specs.Derivation.{is_one, is_two, is_nu, is_pi, has_cut, has_serial, side, plus, kept, added, premises, Applies, only}
 use Rattle.lw_proof.proofs.SignedMeaning.{same_signed-Decides}
 use Rattle.lw_interp.specs.Interpolant.{has_interpolants}
 use Rattle.lw_interp.specs.Maehara.{Sides, put, kept_sides, splits, start}
@@ -91,6 +91,8 @@ module _ (a : Formula) where
   kept_taken S5 X t s e = t s (and_parts _ (X s) e).1
   kept_taken GL X t s e = elim (or_cases (is_nu (parts_of s) && X s) (X (nu_of s)) e) [ inl old ↦ t s (and_parts _ (X s) old).1 | inr below ↦ under_nu s (t (nu_of s) below) ]
   kept_taken Grz X t s e = t s (and_parts _ (X s) e).1
+  kept_taken K4 X t s e = elim (or_cases (is_nu (parts_of s) && X s) (X (nu_of s)) e) [ inl old ↦ t s (and_parts _ (X s) old).1 | inr below ↦ under_nu s (t (nu_of s) below) ]
+  kept_taken KD X t s e = under_nu s (t (nu_of s) e)
 
   flipped : (s : Signed) → Piece a s → Piece a (flip s)
   flipped s h = record { variables = h.variables; small = h.small }
@@ -102,6 +104,8 @@ module _ (a : Formula) where
   added_taken S5 y s c h g = absurd (false≢true y)
   added_taken GL y s c h g = (g, (flipped s h, tt))
   added_taken Grz y s c h g = absurd (false≢true y)
+  added_taken K4 y s c h g = (g, tt)
+  added_taken KD y s c h g = (g, tt)
 
 nu_is_nu : (s : Signed) → IsTrue (is_nu (parts_of (nu_of s)))
 nu_is_nu (T, a) = refl
@@ -131,6 +135,8 @@ kept_either L known X Y Z h s e = by L known e
           | inr new ↦ elim (below new) [ inl y ↦ inl (or_right (is_nu (parts_of s) && Y s) _ y) | inr z ↦ inr (or_right (is_nu (parts_of s) && Z s) _ z) ]
         ]
     by Grz known e = same e
+    by K4 known e = absurd (false≢true known)
+    by KD known e = absurd (false≢true known)
 
 -- no cut is a rule of these logics
 pub no_cut : (L : Logic) → IsTrue (has_interpolants L) → IsTrue (has_cut L) → ⊥
@@ -140,6 +146,19 @@ no_cut S4 known e = false≢true e
 no_cut S5 known e = false≢true known
 no_cut GL known e = false≢true e
 no_cut Grz known e = false≢true e
+no_cut K4 known e = false≢true e
+no_cut KD known e = false≢true e
+
+-- nor is Serial
+pub no_serial : (L : Logic) → IsTrue (has_interpolants L) → IsTrue (has_serial L) → ⊥
+no_serial K known e = false≢true e
+no_serial KT known e = false≢true e
+no_serial S4 known e = false≢true e
+no_serial S5 known e = false≢true e
+no_serial GL known e = false≢true e
+no_serial Grz known e = false≢true e
+no_serial K4 known e = false≢true e
+no_serial KD known e = false≢true known
 
 module _ (a b : Formula) where
   -- s is `F a -> b`, which is on neither side, and its components are on the sides
@@ -298,6 +317,7 @@ module _ (a b : Formula) where
     premises_split cuts Rule.Two c = two_split (parts_of s) c.0 (on_side W s (h.cover s c.1) (no_root is_two refl c.0)) of_a of_b
     premises_split cuts Rule.Refl c = refl_split (parts_of s) c.1 (on_side W s (h.cover s c.2) (no_root is_nu refl c.1)) of_a of_b
     premises_split cuts Rule.Step c = step_split (parts_of s) c.0 (on_side W s (h.cover s c.1) (no_root is_pi refl c.0)) of_a of_b
+    premises_split cuts Rule.Serial c = absurd (no_serial L known c.0)
     premises_split cuts Rule.Cut c = absurd (no_cut L known c.0)
 
   pub start_split : Split (only (F, impl a b)) (start a b)

@@ -44,6 +44,7 @@ splits L Rule.Refl s (Parts.Nu c) W = put_beside W s (c ∷ []) W ∷ []
 splits L Rule.Refl s _ W = []
 splits L Rule.Step s (Parts.Pi c) W = put_beside W s (added trees L s c) (kept_sides L W) ∷ []
 splits L Rule.Step s _ W = []
+splits L Rule.Serial s p W = []
 splits L Rule.Cut s p W = []
 
 -- the interpolant of a Close on a, where the tests say whether `T a` and `F a` are on the left
@@ -80,6 +81,7 @@ joined Rule.Refl s W (j ∷ []) = j
 joined Rule.Refl s W _ = verum
 joined Rule.Step s W (j ∷ []) = of_step (W.left s) j
 joined Rule.Step s W _ = verum
+joined Rule.Serial s W js = verum
 joined Rule.Cut s W js = verum
 
 -- the interpolant that is read off a proof which closes the set of both sides

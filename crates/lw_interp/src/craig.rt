@@ -22,8 +22,8 @@ use std::alloc::Global;
 /// formulas, and `left -> I` and `I -> right` are valid in the logic. Its tree has at most as many nodes as the proof has
 /// lines, times one more than the nodes of the tree of `left -> right`.
 ///
-/// `NoInterpolants` comes exactly for S5 and Grz, before the proof is looked at, and the pool is then as before; `Memory`
-/// comes for want of memory alone. After each answer the pool has what it had, and perhaps formulas above. The proof is
+/// `NoInterpolants` comes exactly for S5, Grz, K4 and KD, before the proof is looked at, and the pool is then as before;
+/// `Memory` comes for want of memory alone. After each answer the pool has what it had, and perhaps formulas above. The proof is
 /// read with a stack in memory, and nothing recurses.
 pub fn interpolant(
     alloc: Global,

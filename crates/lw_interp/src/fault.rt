@@ -8,7 +8,7 @@ use thiserror::Error;
 /// Why there is no interpolant.
 #[derive(Clone, Copy, Debug, PartialEq, Eq, Error)]
 pub enum InterpFault {
-    /// No interpolants are read off the proofs of this logic, which is S5 or Grz.
+    /// No interpolants are read off the proofs of this logic, which is S5, Grz, K4 or KD.
     #[error("no interpolants")]
     NoInterpolants { logic: Logic },
     /// There is no memory for the interpolant.

@@ -9,6 +9,6 @@ pub fn has_interpolants(logic: Logic) -> bool
 {
     match logic {
         Logic::K | Logic::KT | Logic::S4 | Logic::GL => true,
-        Logic::S5 | Logic::Grz => false,
+        Logic::S5 | Logic::Grz | Logic::K4 | Logic::KD => false,
     }
 }

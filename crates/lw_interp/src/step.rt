@@ -12,7 +12,8 @@ use lw_pool::{FormId, Node, Pool, SignedId};
 use lw_proof::Rule;
 use std::alloc::AllocError;
 
-/// The components of the principal that the rule adds: none where it closes its set.
+/// The components of the principal that the rule adds: none where it closes its set, nor where no logic with interpolants
+/// has it.
 pub(crate) fn components(pool: &Pool, rule: Rule, item: SignedId) -> Parts<SignedId>
     requires { IsLive pool.now item.form }
     ensures parts { parts_at pool.now result ≡ components_of rule (parts_of (signed_at pool.now item)) }
@@ -20,7 +21,7 @@ pub(crate) fn components(pool: &Pool, rule: Rule, item: SignedId) -> Parts<Signe
 {
     match rule {
         Rule::One | Rule::Two | Rule::Refl | Rule::Step => pool.parts(item),
-        Rule::Close | Rule::Absurd | Rule::Cut => Parts::Nothing,
+        Rule::Close | Rule::Absurd | Rule::Serial | Rule::Cut => Parts::Nothing,
     }
 }
 
@@ -31,7 +32,13 @@ pub(crate) fn companion(logic: Logic, item: SignedId) -> Option<SignedId>
 {
     match logic {
         Logic::GL => Some(item.flip()),
-        Logic::K | Logic::KT | Logic::S4 | Logic::S5 | Logic::Grz => None,
+        Logic::K
+        | Logic::KT
+        | Logic::S4
+        | Logic::S5
+        | Logic::Grz
+        | Logic::K4
+        | Logic::KD => None,
     }
 }
 
@@ -54,7 +61,9 @@ pub(crate) fn leaf(
             closing(pool, item.form, left, other_left)
         }
         Rule::Absurd => absurdity(pool, left),
-        Rule::One | Rule::Two | Rule::Refl | Rule::Step | Rule::Cut => pool.make(Node::Top),
+        Rule::One | Rule::Two | Rule::Refl | Rule::Step | Rule::Serial | Rule::Cut => {
+            pool.make(Node::Top)
+        }
     }
 }
 

@@ -197,6 +197,7 @@ module _ (t : Table) (R : Set ℕ) (f : Fragment) (logic : t.logic ≡ S5) (alik
         ]
       ];
     };
+    serial = λ serial. absurd (false≢true (sym (ap has_serial logic) ∙ serial));
   }
 
   abbrev height : ℕ → ℕ

@@ -39,7 +39,10 @@ pub(crate) fn child(
     let seed = seed(alloc, closure, root, item, component)?;
     let mut saturation = Saturation::start(alloc, closure, Logic::S5, &seed)?;
     match saturation.next(closure)? {
-        Found::Closed(proof) => Err(Obstacle::Closed(over_one(alloc, closure, Rule::Step, item, proof)?)),
+        Found::Closed(proof) => {
+            let stepped = over_one(alloc, closure, Rule::Step, item, proof)?;
+            Err(Obstacle::Closed(stepped))
+        }
         Found::Unclosed => match undecided(closure, root, &saturation) {
             Some(formula) => Err(Obstacle::Undecided(formula)),
             None => Ok(items(alloc, closure, &saturation)?),

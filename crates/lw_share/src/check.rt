@@ -14,7 +14,7 @@ use crate::table::Table;
 use crate::verdict::SharedVerdict;
 use lw_formula::{Logic, Parts, Sign};
 use lw_pool::{FormId, Pool, SignedId};
-use lw_proof::{Rule, SignedIds, has_cut, has_refl};
+use lw_proof::{Rule, SignedIds, has_cut, has_refl, has_serial};
 use lw_sets::has;
 use std::alloc::{AllocError, Global};
 
@@ -101,6 +101,9 @@ fn applies(
         Rule::Two => matches!(parts, Parts::Two(_, _)) && has(pool, items, item),
         Rule::Refl => { has_refl(logic) && matches!(parts, Parts::Nu(_)) && has(pool, items, item) }
         Rule::Step => matches!(parts, Parts::Pi(_)) && has(pool, items, item),
+        Rule::Serial => {
+            has_serial(logic) && matches!(parts, Parts::Nu(_)) && has(pool, items, item)
+        }
         Rule::Cut => {
             has_cut(logic)
                 && matches!(item.sign, Sign::T)

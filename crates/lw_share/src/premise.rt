@@ -8,7 +8,7 @@ use crate::sets::extended;
 use lw_formula::{Logic, Parts};
 use lw_pool::{Pool, SignedId};
 use lw_proof::{Rule, SignedIds};
-use lw_sets::stepped;
+use lw_sets::{kept_items, stepped};
 use std::alloc::{AllocError, Global};
 
 /// The sets that the rule on the item leaves to be closed, where the items are to be closed; none where the rule takes no
@@ -43,10 +43,21 @@ pub(crate) fn premises(
             let set = stepped(pool, logic, items, item, part)?;
             Ok(vec![in alloc; set]?)
         }
-        (Rule::Cut, _) => both(alloc, items, (item, None), (item.flip(), None)),
-        (Rule::Close | Rule::Absurd | Rule::One | Rule::Two | Rule::Refl | Rule::Step, _) => {
-            Ok(Vec::new(alloc))
+        (Rule::Serial, Parts::Nu(_)) => {
+            let set = kept_items(pool, logic, items)?;
+            Ok(vec![in alloc; set]?)
         }
+        (Rule::Cut, _) => both(alloc, items, (item, None), (item.flip(), None)),
+        (
+            Rule::Close
+            | Rule::Absurd
+            | Rule::One
+            | Rule::Two
+            | Rule::Refl
+            | Rule::Step
+            | Rule::Serial,
+            _,
+        ) => Ok(Vec::new(alloc)),
     }
 }
 

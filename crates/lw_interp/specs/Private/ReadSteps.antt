@@ -24,9 +24,10 @@ components_of Rule.One p = p
 components_of Rule.Two p = p
 components_of Rule.Refl p = p
 components_of Rule.Step p = p
+components_of Rule.Serial p = Nothing
 components_of Rule.Cut p = Nothing
 
--- whether the rule takes a principal that comes to p; a cut has no side
+-- whether the rule takes a principal that comes to p; no logic with interpolants has Serial, and a cut has no side
 abbrev pub takes : Rule → Parts Signed → Bool
 takes Rule.Close p = true
 takes Rule.Absurd p = true
@@ -34,6 +35,7 @@ takes Rule.One p = is_one p
 takes Rule.Two p = is_two p
 takes Rule.Refl p = is_nu p
 takes Rule.Step p = is_pi p
+takes Rule.Serial p = false
 takes Rule.Cut p = false
 
 -- each step's rule takes its principal, and has a subproof for each of its premises

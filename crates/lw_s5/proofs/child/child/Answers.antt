@@ -22,7 +22,7 @@ returns-in-Closed-clause-obstacle c =
     let closes = subst (FoundFits t X every c.next.new.self) c.in-Closed.is found in
     let few = subst (FoundSteps (steps_held c.in_ok-saturation.saturation) c.next.new.self) c.in-Closed.is c.in_ok-proof.ensures.steps in
     let e = ap among c.deref.ensures.value ∙ c.in_ok-seed.ensures.set in
-    subst (λ p. Closes t R p × (steps p ≤ 1)) (sym c.in_ok-over_one-in-Closed.ensures) (
+    subst (λ p. Closes t R p × (steps p ≤ 1)) (sym c.in_ok-stepped-in-Closed.ensures) (
       step_closes t R c.args.item c.args.component c.in-Closed.proof c.requires.item c.requires.there c.requires.parts (subst (λ Y. Closes t Y c.in-Closed.proof) e closes),
       omega (arith, few, c.in_ok-saturation.ensures.steps),
     )
