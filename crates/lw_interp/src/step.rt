@@ -32,13 +32,7 @@ pub(crate) fn companion(logic: Logic, item: SignedId) -> Option<SignedId>
 {
     match logic {
         Logic::GL => Some(item.flip()),
-        Logic::K
-        | Logic::KT
-        | Logic::S4
-        | Logic::S5
-        | Logic::Grz
-        | Logic::K4
-        | Logic::KD => None,
+        Logic::K | Logic::KT | Logic::S4 | Logic::S5 | Logic::Grz | Logic::K4 | Logic::KD => None,
     }
 }
 

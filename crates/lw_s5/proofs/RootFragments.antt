@@ -185,7 +185,6 @@ module _ (t : Table) (R : Set ℕ) (f : Fragment) (logic : t.logic ≡ S5) (alik
           )
       | inr link ↦ absurd (false≢true (sym (ap has_links logic) ∙ link.0))
     ];
-    serial = λ serial. absurd (false≢true (sym (ap has_serial logic) ∙ serial));
     served = λ w l s c in_ parts. (let v = in_world w s c l in_ parts in inr (v.0, inr (cut, v.1), v.2));
     round = λ _. record {
       near = h.near;

@@ -36,7 +36,7 @@ serial_asks ts t keeps serial i l nu =
     let j = flip_item i in
     let below : j < item_count t = flip_below i (length t.forms) l in
     let pi : is_pi (entry_at t j).parts ≡ true =
-        sym (item_pi ts t keeps j below) ∙ ap (λ (x : Signed). is_pi (parts_of x)) (signed_flip ts t i) ∙ flipped_pi (signed_of ts t i) (item_nu ts t keeps i l ∙ nu) in
+    sym (item_pi ts t keeps j below) ∙ ap (λ (x : Signed). is_pi (parts_of x)) (signed_flip ts t i) ∙ flipped_pi (signed_of ts t i) (item_nu ts t keeps i l ∙ nu) in
     let (c, e) = pi_with (entry_at t j).parts pi in
     count_some (is_asker t) (item_count t) j below (pi_asks t j c (serial_alone t.logic serial).2 e)
 

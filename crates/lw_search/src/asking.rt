@@ -57,13 +57,11 @@ impl<R: StepRule> Tableau<'_, R> {
     {
         match self.closure.parts(item) {
             Parts::Pi(inner)
-                if label.has(item) && !(self.rule.is_reflexive() && label.has(inner)) =>
-            {
+                if label.has(item) && !(self.rule.is_reflexive() && label.has(inner)) => {
                 Some(inner)
             }
             Parts::Nu(inner)
-                if self.rule.is_serial() && label.has(item) && !self.others_ask(label, item) =>
-            {
+                if self.rule.is_serial() && label.has(item) && !self.others_ask(label, item) => {
                 Some(inner)
             }
             _ => None,
