@@ -11,6 +11,8 @@ from showing.strokes import along
 GAP, LOOP_GAP = 34, 18
 # how far the nodes may be spread, and how bad an arrow may be before they are spread farther
 SPREADS, CONFUSED = (1.0, 1.4, 2.0), 3.0
+# with more arrows than this a picture takes long, and is drawn but once
+MANY_ARROWS = 100
 
 
 def one_for_both_ways(arrows):
@@ -79,7 +81,7 @@ def drawn_of(model, arrows):
     """The model on paper, its nodes spread as far as is needed to tell the arrows apart; where that isn't reached, as well as
     may be."""
     best = None
-    for spread in SPREADS:
+    for spread in SPREADS if len(arrows) <= MANY_ARROWS else SPREADS[1:2]:
         drawn = Drawn(model, arrows, spread)
         if best is None or drawn.worst < best.worst:
             best = drawn

@@ -48,7 +48,8 @@ class Paper:
             (x, y), wide, high = shape.middle, shape.width / 2 + CLEAR, shape.height / 2 + CLEAR
             if left < x + wide and right > x - wide and top < y + high and low > y - high:
                 least = -0.5 if i in own else CLEAR
-                count += any(shape.distance(p) < least for p in drawn)
+                near = (p for p in drawn if abs(p[0] - x) < wide and abs(p[1] - y) < high)
+                count += any(shape.distance(p) < least for p in near)
         return count
 
     def shared(self, points, heads):

@@ -28,25 +28,26 @@ def toward(p, q, length):
 def on_piece(piece, t):
     """The point of a cubic piece at t, from 0 to 1."""
     u = 1 - t
-    weights = (u**3, 3 * u * u * t, 3 * u * t * t, t**3)
-    return tuple(sum(weight * p[axis] for weight, p in zip(weights, piece)) for axis in (0, 1))
+    a, b, c, d = u * u * u, 3 * u * u * t, 3 * u * t * t, t * t * t
+    one, two, three, four = piece
+    return (a * one[0] + b * two[0] + c * three[0] + d * four[0], a * one[1] + b * two[1] + c * three[1] + d * four[1])
 
 
-def pieces_of(points):
-    """The cubic pieces; that of a straight line has its inner points on it."""
-    if len(points) == 2:
-        third = tuple((points[1][axis] - points[0][axis]) / 3 for axis in (0, 1))
-        inner = [(points[0][0] + k * third[0], points[0][1] + k * third[1]) for k in (1, 2)]
-        points = [points[0]] + inner + [points[1]]
-    return [points[i : i + 4] for i in range(0, len(points) - 3, 3)]
+def on_line(line, t):
+    """The point of a straight line at t, from 0 to 1."""
+    (x, y), (u, v) = line
+    return (x + t * (u - x), y + t * (v - y))
 
 
 def along(points):
-    """Points on the curve, close together."""
-    for piece in pieces_of(points):
-        length = sum(math.dist(p, q) for p, q in zip(piece, piece[1:]))
-        steps = max(4, math.ceil(length / APART))
-        yield from (on_piece(piece, step / steps) for step in range(steps + 1))
+    """Points on the line or the curve, close together."""
+    if len(points) == 2:
+        pieces, on = [points], on_line
+    else:
+        pieces, on = [points[i : i + 4] for i in range(0, len(points) - 3, 3)], on_piece
+    for piece in pieces:
+        steps = max(4, math.ceil(sum(math.dist(p, q) for p, q in zip(piece, piece[1:])) / APART))
+        yield from (on(piece, step / steps) for step in range(steps + 1))
 
 
 def head(tip, back):
