@@ -29,7 +29,7 @@ class Drawn:
     def __init__(self, model, arrows, spread):
         sees, facts, self.refuted = model
         self.nodes, self.labels, shapes = nodes_of(sees, facts, self.refuted)
-        others, looped = arrows_between(self.nodes, arrows)
+        others, looped = arrows_between([node.worlds for node in self.nodes], arrows)
         sizes = [(node.shape.width, node.shape.height) for node in self.nodes]
         layout = Layout(sizes, others, GAP + (LOOP_GAP if looped else 0), spread)
         self.shapes = [node.shape.at(layout.middles[i]) for i, node in enumerate(self.nodes)]

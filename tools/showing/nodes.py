@@ -70,9 +70,9 @@ def nodes_of(sees, facts, refuted):
     return [Node(worlds, shapes) for worlds in groups_of(sees)], labels, shapes
 
 
-def arrows_between(nodes, arrows):
-    """The arrows from node to node, and the nodes that have a loop, as indices."""
-    node_of = {w: i for i, node in enumerate(nodes) for w in node.worlds}
-    ends = {(node_of[v], node_of[w]) for v, w in arrows}
-    loops = sorted(i for i, j in ends if i == j and not nodes[i].is_frame)
-    return sorted((i, j) for i, j in ends if i != j), loops
+def arrows_between(groups, arrows):
+    """The arrows from one group of worlds to another, and the worlds that have a loop and are a group alone, as indices."""
+    group_of = {w: i for i, worlds in enumerate(groups) for w in worlds}
+    ends = {(group_of[v], group_of[w]) for v, w in arrows}
+    looped = sorted(i for i, j in ends if i == j and len(groups[i]) == 1)
+    return sorted((i, j) for i, j in ends if i != j), looped

@@ -7,7 +7,7 @@ from xml.sax.saxutils import escape
 from showing import told
 from showing.drawn import drawn_of
 from showing.labels import LINE, width_of, wrapped
-from showing.nodes import RING, arrows_between, groups_of, nodes_of
+from showing.nodes import RING, arrows_between, groups_of
 from showing.strokes import outline, stroke, text_line
 
 MOST_ARROWS = 600
@@ -74,7 +74,7 @@ def contents(drawn, model):
 
 def refuse_too_many(model, arrows):
     """Raises TooManyArrows where there are more than can be shown."""
-    others, looped = arrows_between(nodes_of(*model)[0], arrows)
+    others, looped = arrows_between(groups_of(model[0]), arrows)
     if len(others) + len(looped) > MOST_ARROWS:
         raise TooManyArrows
 
