@@ -106,7 +106,7 @@ def beside(pictures):
         return
     sizes = [tuple(int(length) for length in SIZE.search(picture[0]).groups()) for picture in pictures]
     size = (sum(width for width, _ in sizes), max(height for _, height in sizes))
-    yield from opening(size, "A model, and the smallest equal one", "From left to right, in two pictures.")
+    yield from opening(size, "A Kripke model, and its bisimulation quotient", "From left to right, in two pictures.")
     yield '<rect width="100%" height="100%" fill="white"/>'
     left = 0
     for picture, (width, _) in zip(pictures, sizes):

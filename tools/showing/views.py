@@ -49,17 +49,17 @@ def caption_of(case, view):
 
 
 def smallest(case, also, is_reduced):
-    """The view of the smallest equal model."""
+    """The view of the bisimulation quotient."""
     smaller, places = quotient.smallest(case.body)
     view = View(case, smaller, also, is_reduced)
-    told = "The smallest equal model: %s" % counted(len(smaller[0]), "world")
+    told = "The bisimulation quotient: %s" % counted(len(smaller[0]), "world")
     view.heading = ["", "%s; the worlds above are %s there" % (told, ", ".join(str(place) for place in places))]
     view.caption = [told + "."] + caption_of(case, view)
     return view
 
 
 def of_case(case, also, is_reduced, with_smallest, form=printed):
-    """The view of a case's model, and that of its smallest equal model where that is wanted too."""
+    """The view of a case's model, and that of its bisimulation quotient where that is wanted too."""
     view = View(case, case.body, also, is_reduced)
     view.heading, view.caption = [claim(case, form)], caption_of(case, view)
     return [view] + ([smallest(case, also, is_reduced)] if with_smallest else [])
