@@ -2,7 +2,7 @@
 
 import math
 import re
-from xml.sax.saxutils import escape
+from xml.sax.saxutils import escape, unescape
 
 from showing import told
 from showing.drawn import drawn_of
@@ -98,6 +98,11 @@ def lines(model, arrows, caption):
     yield "</svg>"
 
 
+def description_of(picture):
+    """What the lines of a picture say of it."""
+    return unescape(next(line for line in picture if line.startswith("<desc>"))[len("<desc>") : -len("</desc>")])
+
+
 def beside(pictures):
     """One picture of several, from left to right; one alone stays as it is."""
     pictures = [list(picture) for picture in pictures]
@@ -106,7 +111,7 @@ def beside(pictures):
         return
     sizes = [tuple(int(length) for length in SIZE.search(picture[0]).groups()) for picture in pictures]
     size = (sum(width for width, _ in sizes), max(height for _, height in sizes))
-    yield from opening(size, "A Kripke model, and its bisimulation quotient", "From left to right, in two pictures.")
+    yield from opening(size, "A Kripke model, and its bisimulation quotient", " Beside it: ".join(description_of(picture) for picture in pictures))
     yield '<rect width="100%" height="100%" fill="white"/>'
     left = 0
     for picture, (width, _) in zip(pictures, sizes):
