@@ -10,8 +10,16 @@ from checks.report import TOP
 
 SHOWN = '#!/bin/sh\ncat "$2"\n'
 FAULT = '#!/bin/sh\necho "fault: line 1 column 9: unexpected"\nexit 1\n'
+JUDGE = "#!/bin/sh\necho accepted\n"
+TEXT = "certificate 1\nend\n"
 KIT = "#!/bin/sh\necho kit-1 logic 2\n"
+NAMES = ("run", "check", "gen", "build")
 NOT_BUILT = "the program isn't built, or belongs to other sources\n"
+
+
+def put(folder, program):
+    folder.put_program(program)
+    folder.run("vouch")
 
 
 def one_line(done, status):
@@ -23,12 +31,14 @@ def check_help(report, folder):
     told = folder.run("--help")
     first = "lw run FILE    runs a script\n"
     report.check("lw --help", told[0].startswith(first) and "lw ask LOGIC FORMULA" in told[0] and told[1:] == ("", 0), str(told))
-    for words in (["-h"], ["--seconds", "9", "-h"]) + tuple([name, word] for name in ("run", "check", "gen", "build") for word in ("-h", "--help")):
+    for words in (["-h"], ["--seconds", "9", "-h"]) + tuple([name, word] for name in NAMES for word in ("-h", "--help")):
         report.compare("lw %s" % " ".join(words), told, folder.run(*words))
     written, told, status = folder.run()
     report.check("lw without words", (written, status) == ("", 2) and told.startswith(first), told)
     for words in (["--version", "more"], ["--halp"], ["run"], ["run", "one", "two"], [""]):
         report.check("lw %s" % words, folder.run(*words)[2] != 0)
+    version = folder.run("--version")
+    report.compare("lw run --version", version, folder.run("run", "--version"))
 
 
 def check_unwritten(report, folder):
@@ -38,16 +48,18 @@ def check_unwritten(report, folder):
 
 def check_input(report, folder):
     """The program reads what came on standard input, and no more than shows that a file is too long."""
-    folder.put_program(SHOWN)
-    folder.run("vouch")
+    put(folder, SHOWN)
     for command in ("run", "check"):
         report.compare("lw %s -" % command, ("one\ntwo", "", 0), folder.run(command, "-", input="one\ntwo"))
+    put(folder, JUDGE)
+    told = folder.run("check-all", "-", input="a line\n" + 2 * TEXT)
+    report.compare("lw check-all -", ("-:2: accepted\n-:4: accepted\n", "", 0), told)
+    put(folder, SHOWN)
     report.compare("lw run - of too much", 1048577, len(folder.run("run", "-", input="x" * 2000000)[0]))
     report.check("lw run - <&-", one_line(folder.run("run", "-", preexec_fn=lambda: os.close(0)), 3))
     write(os.path.join(folder.top, "-"), "a file\n")
     report.compare("lw run ./-", ("a file\n", "", 0), folder.run("run", os.path.join(folder.top, "-")))
-    folder.put_program(FAULT)
-    folder.run("vouch")
+    put(folder, FAULT)
     told = folder.run("run", "-", input="print p\nprint q;")
     report.check("lw run - of a fault", told[1].startswith("`;` is missing here\n") and told[2] == 1, str(told))
 
