@@ -177,7 +177,7 @@ def check_plain(report, asked):
     report.compare("lw ask without python3: yes", ("yes\n", "", 0), asked.run("yes\n", 0, "k", "(p & q) <-> ~box p"))
     report.compare("lw ask without python3: its question", "A := (p & q) <-> ~box p;\nprint provable(k, A);\n", asked.question())
     report.compare("lw ask without python3: no", ("no\n", "", 1), asked.run("no\n", 0, "k", "p"))
-    report.compare("lw ask without python3: -", ("no\n", "", 1), asked.run("no\n", 0, "k", "-", input="p -> q\n"))
+    report.compare("lw ask without python3: -", ("no\n", "", 1), asked.run("no\n", 0, "k", "-", input="p ->\n\tq\r\n"))
     report.check("lw ask --help without python3", asked.run("", 0, "--help")[0].startswith("lw run FILE"))
     for words in (["k", "□p"], ["k", "p; print q"], ["k", "p # q"], ["k", "p, q"], ["k", "p", "--show"], ["k"], ["k, p)", "q"]):
         done = asked.run("yes\n", 0, *words)
