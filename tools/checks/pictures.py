@@ -7,9 +7,10 @@ import math
 import os
 import xml.etree.ElementTree as tree
 
+from checks.choices import Choices
 from checks.report import TOP, text_of
 from checks.running import run
-from checks.show import models
+from checks.show import CLOSED_UNDER, closure, models
 from showing import labels, nodes, picture, reduction, rings
 
 PICTURES = os.path.join(TOP, "docs", "pictures")
@@ -19,6 +20,8 @@ FRAME_TOLD = (
     "world 0 sees itself; world 0 sees worlds 1 and 2."
 )
 FRAME_CAPTION = "The worlds in a frame all see each other and themselves; an arrow at a frame stands for one at each of its worlds."
+# the logics whose relations have no cycles but loops
+ORDERED = ("gl", "grz")
 # an arrow of a picture made by hand
 LINE = '<g><title>%s</title><path d="M %s %s L %s %s"/><path class="head" d="M %s %s L 0 0 L 0 0 Z"/></g>'
 
@@ -111,7 +114,13 @@ def evenly(line):
 
 def share_beside(one, other):
     """Which part of the first line is within 3 units of the second."""
-    beside = sum(any(abs(p[0] - q[0]) < 3 and math.dist(p, q) < 3 for q in other) for p in one)
+    places = {}
+    for q in other:
+        places.setdefault((q[0] // 3, q[1] // 3), []).append(q)
+    beside = 0
+    for p in one:
+        around = [(p[0] // 3 + i, p[1] // 3 + j) for i in (-1, 0, 1) for j in (-1, 0, 1)]
+        beside += any(math.dist(p, q) < 3 for place in around for q in places.get(place, ()))
     return beside / max(1, len(one))
 
 
@@ -206,6 +215,20 @@ def check_committed(report):
         report.check("%s stands in a document" % name, any("pictures/%s.svg" % name in text for text in documents))
 
 
+def check_by_chance(report):
+    """Small models by chance, of each class: their pictures can be read, and each of their arrows told from every other."""
+    choices = Choices(44)
+    for logic in CLOSED_UNDER:
+        for count in (4, 5, 6):
+            pairs = [(v, w) for v in range(count) for w in range(count) if choices.below(4) == 0]
+            sees = closure(logic, count, [(v, w) for v, w in pairs if v < w or logic not in ORDERED])
+            for is_reduced in (False, True):
+                arrows, _ = reduction.drawn_arrows(logic, sees, is_reduced)
+                what = "picture by chance, %s %s%s" % (logic, sees, ", reduced" if is_reduced else "")
+                svg = check_picture(report, what, picture.lines((sees, [{"p", "q%d" % w} for w in range(count)], 0), arrows, []))
+                report.compare(what, [], confused(svg))
+
+
 def by_hand(*arrows):
     """A picture of these straight arrows, each from a point to another."""
     lines = [LINE % ((number,) + start + end + end) for number, (start, end) in enumerate(arrows)]
@@ -263,6 +286,7 @@ def check_all(report):
     check_knots(report)
     check_long_labels(report)
     check_confused(report)
+    check_by_chance(report)
     check_frames(report)
     check_rings(report)
     check_reduced_words(report)

@@ -10,7 +10,7 @@ from showing.strokes import along
 
 GAP, LOOP_GAP = 34, 18
 # how far the nodes may be spread, and how bad an arrow may be before they are spread farther
-SPREADS, CONFUSED = (1.0, 1.4, 2.0), 3.0
+SPREADS, CONFUSED = (1.0, 1.4, 2.0, 2.8), 3.0
 # with more arrows than this a picture takes long, and is drawn but once
 MANY_ARROWS = 100
 

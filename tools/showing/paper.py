@@ -6,8 +6,8 @@ from showing.strokes import along
 
 # how near an arrow may come to a node, an arrow to another, and an end to another, of which one has a head or none
 CLEAR, CLOSE, HEADS_APART, TAILS_APART = 6, 3.5, 9, 5
-MOST_CLOSE = 0.08
-HIT, SHARED, RUNNING, DETOUR = 100.0, 10.0, 30.0, 4.0
+MOST_CLOSE = 0.06
+HIT, SHARED, RUNNING, DETOUR = 100.0, 10.0, 150.0, 4.0
 # a way that is so much longer than the straight one is none the worse for it; and what is less bad than this is good enough
 SHORT, GOOD = 1.15, 0.2
 
