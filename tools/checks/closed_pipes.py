@@ -6,6 +6,7 @@ import subprocess
 from checks.report import TOP
 
 CERTIFICATE = "examples/check/loeb-in-gl.txt"
+MODEL = "examples/check/one-dead-end.txt"
 FORMULA = "examples/from-other/dfg/box-and-dia.dfg"
 READERS = (("check-certificate",), ("show",), ("from-other", "dfg"))
 WRITERS = (
@@ -13,6 +14,8 @@ WRITERS = (
     ("check-certificate", "--all", CERTIFICATE, CERTIFICATE),
     ("check-certificate", "--json", CERTIFICATE),
     ("show", CERTIFICATE),
+    ("show", MODEL, "--svg", "-"),
+    ("show", MODEL, "--dot", "-"),
     ("from-other", "dfg", FORMULA),
     ("trusted-reading", "--total"),
 )

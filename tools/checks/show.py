@@ -45,8 +45,10 @@ def models():
 
 
 def check_first_lines(report):
-    """The first line begins with the checker's own, and the status is its own."""
+    """The first line begins with the checker's own, and the status is its own; text behind `end` is no matter here."""
     for name in names_of_certificates():
+        if "behind-the-end" in name:
+            continue
         line, status = verdict(data_of(name))
         written, ended = run("tools/show", "examples/check/%s.txt" % name)
         report.check("show %s" % name, written.startswith(line) and ended == status, written.split("\n")[0])

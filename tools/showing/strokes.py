@@ -1,9 +1,13 @@
-"""What a picture in SVG is drawn of: curves with heads, and lines of text."""
+"""What a picture in SVG is drawn of: lines and curves with heads, and lines of text.
+
+The points of a curve are those of its cubic pieces, whose ends are points 0, 3, 6 and so on; two points are a straight line.
+"""
 
 import math
 from xml.sax.saxutils import escape
 
 HEAD, HALF_HEAD = 9, 4
+APART = 2.5
 
 
 def number(value):
@@ -21,6 +25,30 @@ def toward(p, q, length):
     return (p[0] + (q[0] - p[0]) * length / away, p[1] + (q[1] - p[1]) * length / away)
 
 
+def on_piece(piece, t):
+    """The point of a cubic piece at t, from 0 to 1."""
+    u = 1 - t
+    weights = (u**3, 3 * u * u * t, 3 * u * t * t, t**3)
+    return tuple(sum(weight * p[axis] for weight, p in zip(weights, piece)) for axis in (0, 1))
+
+
+def pieces_of(points):
+    """The cubic pieces; that of a straight line has its inner points on it."""
+    if len(points) == 2:
+        third = tuple((points[1][axis] - points[0][axis]) / 3 for axis in (0, 1))
+        inner = [(points[0][0] + k * third[0], points[0][1] + k * third[1]) for k in (1, 2)]
+        points = [points[0]] + inner + [points[1]]
+    return [points[i : i + 4] for i in range(0, len(points) - 3, 3)]
+
+
+def along(points):
+    """Points on the curve, close together."""
+    for piece in pieces_of(points):
+        length = sum(math.dist(p, q) for p, q in zip(piece, piece[1:]))
+        steps = max(4, math.ceil(length / APART))
+        yield from (on_piece(piece, step / steps) for step in range(steps + 1))
+
+
 def head(tip, back):
     """An arrow's head with its tip there, pointing away from `back`."""
     foot = toward(tip, back, HEAD)
@@ -29,16 +57,29 @@ def head(tip, back):
     return '<path class="head" d="M %s L %s L %s Z"/>' % tuple(point(corner) for corner in corners)
 
 
-def curve(points, two_headed):
-    """A curve of cubic pieces, whose ends are points 0, 3, 6 and so on, with a head at its end, or at both ends."""
+def stroke(points, two_headed):
+    """The line or curve with a head at its end, or at both ends."""
     start = toward(points[0], points[1], HEAD - 1) if two_headed else points[0]
     end = toward(points[-1], points[-2], HEAD - 1)
     through = [start] + points[1:-1] + [end]
-    pieces = ["C " + ", ".join(point(p) for p in through[i : i + 3]) for i in range(1, len(through), 3)]
+    if len(through) == 2:
+        pieces = ["L " + point(end)]
+    else:
+        pieces = ["C " + ", ".join(point(p) for p in through[i : i + 3]) for i in range(1, len(through), 3)]
     yield '<path d="M %s %s"/>' % (point(start), " ".join(pieces))
     yield head(points[-1], points[-2])
     if two_headed:
         yield head(points[0], points[1])
+
+
+def outline(shape, kind):
+    """A box with round corners, or a circle."""
+    (x, y), radius = shape.middle, shape.corner
+    if shape.width == shape.height == 2 * radius:
+        return '<circle class="%s" cx="%s" cy="%s" r="%s"/>' % (kind, number(x), number(y), number(radius))
+    corner = (number(x - shape.width / 2), number(y - shape.height / 2))
+    size = (number(shape.width), number(shape.height), number(radius))
+    return '<rect class="%s" x="%s" y="%s" width="%s" height="%s" rx="%s"/>' % ((kind,) + corner + size)
 
 
 def text_line(x, y, kind, text):

@@ -1,0 +1,62 @@
+"""A model on paper: its nodes in their places, and the way of each arrow."""
+
+import math
+
+from showing.layout import Layout
+from showing.nodes import arrows_between, nodes_of
+from showing.paper import Paper
+from showing.routes import loops, ways
+from showing.strokes import along
+
+GAP, LOOP_GAP, PASSING = 34, 18, 22
+
+
+def one_for_both_ways(arrows):
+    """The arrows, with whether they have two heads: one for two that go there and back."""
+    there = set(arrows)
+    return {(v, w): (w, v) in there for v, w in arrows if (w, v) not in there or v < w}
+
+
+class Drawn:
+    """The nodes, the outline of each in its place, the label and the outline of each world, and the arrows: for each pair of
+    nodes its points and whether it has two heads; that of a loop is of a node with itself."""
+
+    def __init__(self, model, arrows):
+        sees, facts, self.refuted = model
+        self.nodes, self.labels, shapes = nodes_of(sees, facts, self.refuted)
+        others, looped = arrows_between(self.nodes, arrows)
+        sizes = [(node.shape.width, node.shape.height) for node in self.nodes]
+        layout = Layout(sizes, others, GAP + (LOOP_GAP if looped else 0), PASSING)
+        self.shapes = [node.shape.at(layout.middles[i]) for i, node in enumerate(self.nodes)]
+        self.worlds = {w: shapes[w].at(self.place(i, w)) for i, node in enumerate(self.nodes) for w in node.worlds}
+        self.paper, self.arrows = Paper(self.shapes), {}
+        self.draw_arrows(layout, one_for_both_ways(others))
+        self.draw_loops(layout, looped)
+
+    def place(self, i, w):
+        (x, y), (dx, dy) = self.shapes[i].middle, self.nodes[i].places[w]
+        return (x + dx, y + dy)
+
+    def draw_arrows(self, layout, arrows):
+        """The shorter ones first, since they have fewer ways."""
+        def length(pair):
+            return math.dist(self.shapes[pair[0]].middle, self.shapes[pair[1]].middle), pair
+
+        for v, w in sorted(arrows, key=length):
+            two_headed = arrows[(v, w)]
+            found = ways(self.shapes[v], self.shapes[w], layout.passed.get((v, w), []))
+            self.arrows[(v, w)] = self.paper.add_best(found, (two_headed, True), (v, w)), two_headed
+
+    def draw_loops(self, layout, looped):
+        for i in looped:
+            found = loops(self.shapes[i], layout.outward[i])
+            self.arrows[(i, i)] = self.paper.add_best(found, (False, True), (i,)), False
+
+    def bounds(self):
+        """The left, top, right and lower bounds of all that is drawn."""
+        points = [p for way, _ in self.arrows.values() for p in along(way)]
+        for shape in self.shapes:
+            (x, y), wide, high = shape.middle, shape.width / 2, shape.height / 2
+            points += [(x - wide, y - high), (x + wide, y + high)]
+        xs, ys = [p[0] for p in points], [p[1] for p in points]
+        return min(xs), min(ys), max(xs), max(ys)
