@@ -1,0 +1,183 @@
+"""Whether tools/show shows proofs in all their forms: briefly, shared, in signs, and as trees of which no two branches overlap."""
+
+import xml.etree.ElementTree as tree
+
+from certificates.calculus import premises
+from certificates.formulas import spelled, subformulas
+from certificates.judge import verdict
+from certificates.texts import read
+from checks.running import run
+from checks.show import SVG, data_of, names_of_certificates
+from showing import proof_picture, sharing
+from showing.proof_nodes import FOLDED_FROM
+
+PIGEONS = "five-pigeons-in-four-holes"
+PIGEON_LINES, MOST_LINES = 820, 1500
+LOEB = """accepted: a proof of □(□p → p) → □p in GL, 5 steps
+Each line has the rule, the principal with its kind, and behind => what is new; two premises stand farther in.
+A world that is gone to is set apart by |, and begins with its whole set.
+world 0: F □(□p → p) → □p
+1. one α F □(□p → p) → □p => T □(□p → p), F □p
+2. step π F □p => world 1
+| world 1: F p, T □p, T □(□p → p), T □p → p
+| 3. two β T □p → p => F □p | T p
+|   4. close ν T □p with F □p
+|   5. close T p with F p
+"""
+LOEB_SHARED = """accepted: a proof of box(box p -> p) -> box p in GL, 5 steps
+The steps close 5 sets, each once below; a line cites those of its premises.
+line  cites  rule   principal                     closed set
+1     -      close  ν T box p                     F p, T box p, T box(box p -> p), T box p -> p, F box p
+2     -      close  T p                           F p, T box p, T box(box p -> p), T box p -> p, T p
+3     1 2    two    β T box p -> p                F p, T box p, T box(box p -> p), T box p -> p
+4     3      step   π F box p                     F box(box p -> p) -> box p, T box(box p -> p), F box p
+5     4      one    α F box(box p -> p) -> box p  F box(box p -> p) -> box p
+"""
+REJECTED = "breaks its rule: T box p isn't in the set"
+# what a box says of Löb's proof, and how many boxes and worlds there are
+LOEB_TITLE = "world 1 begins with F p, T box p, T box(box p -> p), T box p -> p; 3. two β T box p -> p"
+
+
+def halves(one, other):
+    """A proof of `one & other`, which are implications of a formula by itself."""
+    goal = ("&", one, other)
+    parts = [[("one", ("F", a)), ("close", ("T", a[1]))] for a in (one, other)]
+    return goal, [("two", ("F", goal))] + parts[0] + parts[1]
+
+
+def doubled(times):
+    """A proof of p -> p doubled by & so often."""
+    goal = spelled(b"p -> p")
+    steps = [("one", ("F", goal)), ("close", ("T", goal[1]))]
+    for _ in range(times):
+        goal = ("&", goal, goal)
+        steps = [("two", ("F", goal))] + steps + steps
+    return goal, steps
+
+
+def counts(logic, goal, steps):
+    return [len(steps), len(sharing.shared(logic, goal, steps)[0].lines)]
+
+
+def check_counts(report):
+    """As many steps and sets as LANGUAGE has them of the function `shared`, for the same formulas."""
+    same, other = spelled(b"p -> p"), spelled(b"q -> q")
+    for what, wanted, proof in (("halves", [5, 3], halves(same, same)), ("other halves", [5, 5], halves(same, other)), ("doublings", [3071, 12], doubled(10))):
+        report.compare("shared: %s" % what, wanted, counts("k", *proof))
+
+
+def proofs():
+    """The accepted proofs among the certificates: name, logic, formula and steps."""
+    for name in names_of_certificates():
+        data = data_of(name)
+        if verdict(data)[0] == "accepted" and isinstance(read(data)[2], list):
+            yield (name,) + read(data)
+
+
+def cites_its_premises(logic, cuts, lines, number):
+    """Whether the line cites earlier lines, whose sets are the premises of its step."""
+    line = lines[number - 1]
+    cited = [frozenset(lines[other - 1].formulas) for other in line.cites if other < number]
+    return cited == premises(logic, cuts, frozenset(line.formulas), line.rule, line.principal)
+
+
+def check_tables(report):
+    """Each set stands once, its line cites the lines of its premises, and the last is the goal's."""
+    for name, logic, goal, steps in proofs():
+        lines = sharing.shared(logic, goal, steps)[0].lines
+        cuts, sets = subformulas(goal), {frozenset(line.formulas) for line in lines}
+        good = len(sets) == len(lines) and lines[-1].formulas == [("F", goal)]
+        report.check("table of %s" % name, good and all(cites_its_premises(logic, cuts, lines, n) for n in range(1, len(lines) + 1)))
+
+
+def check_texts(report):
+    loeb = "examples/check/loeb-in-gl.txt"
+    report.compare("show --unicode", LOEB, run("tools/show", loeb, "--unicode")[0])
+    report.compare("show --shared", LOEB_SHARED, run("tools/show", loeb, "--shared")[0])
+    written = run("tools/show", "examples/check/%s.txt" % PIGEONS)[0]
+    report.compare("lines of %s" % PIGEONS, PIGEON_LINES, data_of(PIGEONS).count(b"\n"))
+    report.check("brief %s" % PIGEONS, written.count("\n") <= MOST_LINES, "%d lines" % written.count("\n"))
+    for form in ("--brief", "--full", "--shared", "--tree"):
+        written, status = run("tools/show", "examples/check/loeb-in-k.txt", form)
+        report.check("show %s of a rejected proof" % form, status == 1 and "4. close" in written and told_why(form) in written, written)
+
+
+def told_why(form):
+    return REJECTED.replace("box p", "□p") if form == "--tree" else REJECTED
+
+
+class Rectangle:
+    """A box or a frame of a picture."""
+
+    def __init__(self, element):
+        x, y, width, height = (float(element.get(key)) for key in ("x", "y", "width", "height"))
+        self.left, self.top, self.right, self.low = x, y, x + width, y + height
+
+    def meets(self, other):
+        return self.left < other.right and other.left < self.right and self.top < other.low and other.top < self.low
+
+    def has(self, other):
+        return self.left < other.left and other.right < self.right and self.top < other.top and other.low < self.low
+
+    def has_point(self, x, y):
+        return self.left < x < self.right and self.top < y < self.low
+
+
+def rectangles(svg, kind):
+    return [Rectangle(element) for element in svg.iter(SVG + "rect") if element.get("class").split()[0] == kind]
+
+
+def edges(svg):
+    """The ends of each line."""
+    for path in svg.iter(SVG + "path"):
+        if path.get("class") is None:
+            words = path.get("d").split()
+            yield tuple(float(word) for word in words if word not in "ML")
+
+
+def crosses(edge, boxes):
+    """Whether a point inside the line lies in a box."""
+    x, y, u, v = edge
+    near = [box for box in boxes if box.top < max(y, v) and min(y, v) < box.low and box.left < max(x, u) and min(x, u) < box.right]
+    return any(box.has_point(x + (u - x) * i / 20, y + (v - y) * i / 20) for box in near for i in range(1, 20))
+
+
+def is_written_inside(group):
+    """Whether the letters lie in the box."""
+    box = Rectangle(group.find(SVG + "rect"))
+    places = [(float(text.get("x")), float(text.get("y")), proof_picture.LETTER * len(text.text) / 2) for text in group.findall(SVG + "text")]
+    return all(box.left <= x - half and x + half <= box.right and box.top + 10 <= y <= box.low - 4 for x, y, half in places)
+
+
+def check_tree(report, what, lines, count):
+    svg = tree.fromstring("\n".join(lines))
+    boxes, frames = rectangles(svg, "box"), rectangles(svg, "world")
+    paper = Rectangle(tree.Element("rect", dict(svg.attrib, x="0", y="0")))
+    report.compare("tree of %s: boxes" % what, count, len(boxes))
+    report.check("tree of %s: boxes apart" % what, not any(a.meets(b) for i, a in enumerate(boxes) for b in boxes[:i]))
+    inside = all(a.has(b) or b.has(a) or not a.meets(b) for i, a in enumerate(frames) for b in frames[:i])
+    report.check("tree of %s: frames" % what, inside and all(frame.has(box) or not frame.meets(box) for frame in frames for box in boxes))
+    report.check("tree of %s: in view" % what, all(paper.has(other) for other in boxes + frames))
+    report.check("tree of %s: lines" % what, not any(crosses(edge, boxes) for edge in edges(svg)))
+    report.check("tree of %s: texts" % what, all(is_written_inside(group) for group in svg.iter(SVG + "g")))
+    told = [element.text for element in list(svg)[:2]]
+    report.check("tree of %s: words" % what, told[0].startswith("A proof of ") and " steps" in told[1], str(told))
+
+
+def check_trees(report):
+    for name, logic, goal, steps in proofs():
+        # no set of the longer proof is closed twice either
+        if len(steps) < FOLDED_FROM or name == PIGEONS:
+            check_tree(report, name, proof_picture.lines(logic, goal, steps, True), len(steps))
+    for times, count in ((6, 191), (7, 16)):
+        # 383 steps close 9 sets, and each of 7 doublings has a second half, which is closed as the first one
+        check_tree(report, "%d doublings" % times, proof_picture.lines("k", *doubled(times), True), count)
+    drawn = "\n".join(proof_picture.lines(*read(data_of("loeb-in-gl")), True)).replace("&gt;", ">")
+    report.check("tree of loeb-in-gl: titles", "<title>%s</title>" % LOEB_TITLE in drawn and drawn.count('class="world"') == 2, drawn)
+
+
+def check_all(report):
+    check_counts(report)
+    check_tables(report)
+    check_texts(report)
+    check_trees(report)
