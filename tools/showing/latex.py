@@ -1,7 +1,7 @@
 """Proofs and models for papers in LaTeX: a proof as a tree of the package forest, a model as a picture in TikZ."""
 
 from certificates.calculus import flip
-from showing import drawing, proof_picture, reasons, tikz
+from showing import contours, drawing, reasons, tikz
 from showing.places import kind
 from showing.proof_nodes import nodes
 from showing.signs import in_latex, in_unicode
@@ -9,6 +9,8 @@ from showing.words import LOGIC_NAMES, counted
 
 # TeX knows no longer lengths, in points, and a tree of more boxes takes it too long
 LONGEST, MOST_NODES = 16000, 400
+# what is reckoned with for a letter, and for a line, in points
+LETTER, ROW = 6, 13
 MARGIN = 30
 FOREST = "for tree={draw,rounded corners=2pt,align=center,l sep=20pt,s sep=12pt,inner sep=4pt,font=\\small}"
 
@@ -80,15 +82,29 @@ class Figure:
             raise TooLarge("a drawing of %d by %d points" % size)
 
 
+def box_of(node):
+    """About as large a box as the node's will be."""
+    place, visit = node.visit.place, node.visit
+    lines = [in_unicode(s[1]) for s in place.new] + [in_unicode(visit.principal[1]) * (2 if visit.left == [] else 1)]
+    return contours.Box(len(lines) + 3, LETTER * (max(map(len, lines)) + 24))
+
+
+def size_of(found):
+    """About the width and the height of the tree."""
+    boxes = {node.visit.number: box_of(node) for node in found}
+    for node in found:
+        boxes[node.visit.number].below = [boxes[other.visit.number] for other in node.below]
+    width, rows = contours.place(list(boxes.values()))
+    return width, ROW * rows
+
+
 def of_proof(case):
     found = nodes(case.logic, case.goal, case.body)
     if len(found) > MOST_NODES:
         raise TooLarge("a tree of %d boxes" % len(found))
-    _, width, rows = proof_picture.laid_out(case.logic, case.goal, found)
-    size = (tikz.SCALE * width, tikz.SCALE * proof_picture.ROW * rows)
     what = "A proof" if case.line == "accepted" else "No proof"
     told = "%s of $%s$ in %s: %s." % (what, in_latex(case.goal), LOGIC_NAMES[case.logic], counted(len(case.body), "step"))
-    return Figure(list(forest(case.logic, case.goal, found)), size, "forest", told)
+    return Figure(list(forest(case.logic, case.goal, found)), size_of(found), "forest", told)
 
 
 def of_model(case, views):

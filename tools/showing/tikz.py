@@ -10,9 +10,8 @@ SCALE = 0.8
 SPACE = "{http://www.w3.org/2000/svg}"
 LETTERS = {UNICODE[sign]: "$%s$" % LATEX[sign].strip() for sign in UNICODE}
 LETTERS.update({"_": r"\_", "&": r"\&", "%": r"\%", "#": r"\#", "$": r"\$", "{": r"\{", "}": r"\}", "~": r"\~{}", "^": r"\^{}"})
-LETTERS.update({"\\": r"\textbackslash{}", "<": "$<$", ">": "$>$", "…": r"\dots{}", "-": "-"})
-GREEK = {"α": r"$\alpha$", "β": r"$\beta$", "ν": r"$\nu$", "π": r"$\pi$"}
-LETTERS.update(GREEK)
+LETTERS.update({"\\": r"\textbackslash{}", "<": "$<$", ">": "$>$", "…": r"\dots{}"})
+LETTERS.update({"α": r"$\alpha$", "β": r"$\beta$", "ν": r"$\nu$", "π": r"$\pi$"})
 OUTLINES = {"world": "fill=white", "frame": "fill=black!6"}
 
 
