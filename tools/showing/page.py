@@ -23,6 +23,7 @@ pre, .steps, .picture, .table { overflow-x: auto; background: #f6f6f6; border: 1
 article { border-left: 4px solid #ccc; padding-left: 0.8rem; margin: 1rem 0; }
 summary { cursor: pointer; }
 :focus-visible { outline: 3px solid #0050c0; outline-offset: 2px; }
+caption { text-align: left; font-weight: bold; }
 th, td { text-align: left; padding: 0 1rem 0 0; vertical-align: top; }
 """
 RULE = re.compile(r"([^{}]+)(\{[^{}]*\})")
@@ -135,13 +136,12 @@ class Run:
 def parts_of(output):
     """The output in its order: lines outside of certificates as bytes, and a case for each certificate. All bytes together
     are the output."""
-    at = 0
-    for _, data in certificates_in(output):
-        begin = output.index(data, at)
-        if begin > at:
-            yield output[at:begin]
+    at, begins = 0, [0] + [match.end() for match in re.finditer(b"\n", output)]
+    for line, data in certificates_in(output):
+        if begins[line - 1] > at:
+            yield output[at : begins[line - 1]]
         yield cases.Case("", data)
-        at = begin + len(data)
+        at = begins[line - 1] + len(data)
     if at < len(output):
         yield output[at:]
 
