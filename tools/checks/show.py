@@ -1,8 +1,8 @@
 """Whether tools/show says what the second checker says, and whether its pictures can be read."""
 
 import glob
+import math
 import os
-import tempfile
 import xml.etree.ElementTree as tree
 
 from certificates.calculus import first_break, flip, walk
@@ -116,66 +116,148 @@ def check_reduction(report, name, logic, sees):
         report.compare("reduced %s" % name, [sorted(row) for row in sees], closure(logic, len(sees), arrows))
 
 
-def circles_of(svg):
-    return [tuple(float(circle.get(key)) for key in ("cx", "cy", "r")) for circle in svg.iter(SVG + "circle")]
+def has_class(element, word):
+    return word in element.get("class", "").split()
 
 
-def overlap(one, other):
-    """Whether two circles with different centres touch."""
-    (x, y, r), (u, v, s) = one, other
-    return (x, y) != (u, v) and (x - u) ** 2 + (y - v) ** 2 <= (r + s) ** 2
+def box_of(element):
+    """The left, top, right and lower bounds of a circle or a box, and the radius of its corners."""
+    if element.tag == SVG + "circle":
+        x, y, r = (float(element.get(key)) for key in ("cx", "cy", "r"))
+        return x - r, y - r, x + r, y + r, r
+    x, y, width, height, r = (float(element.get(key)) for key in ("x", "y", "width", "height", "rx"))
+    return x, y, x + width, y + height, r
 
 
-def is_within(svg, text):
-    """Whether the text lies in the view, with each letter as wide as is reckoned with."""
-    width, height = float(svg.get("width")), float(svg.get("height"))
-    length, x, y = labels.LETTER * len(text.text or ""), float(text.get("x")), float(text.get("y"))
-    left = x - length / 2 if "middle" in text.get("class") else x
-    return 0 <= left and left + length <= width and labels.LINE <= y <= height
+def boxes_of(svg, word):
+    """The outer outlines of worlds, or those of frames."""
+    return [box_of(next(part for part in group if has_class(part, word))) for group in svg.iter(SVG + "g") if any(has_class(part, word) for part in group)]
 
 
-def paths_of(svg):
-    """The points of each path, as they are given."""
-    for path in svg.iter(SVG + "path"):
-        numbers = [float(word) for word in path.get("d").replace(",", " ").split() if word[0] in "-0123456789"]
-        yield path.get("class"), list(zip(numbers[::2], numbers[1::2]))
+def apart(one, other):
+    """Whether two outlines don't touch, and neither is within the other."""
+    return one[2] < other[0] or other[2] < one[0] or one[3] < other[1] or other[3] < one[1]
+
+
+def within(one, other):
+    return other[0] < one[0] and other[1] < one[1] and one[2] < other[2] and one[3] < other[3]
+
+
+def outside(p, box):
+    """How far the point is outside the outline; negative within."""
+    left, top, right, low, r = box
+    x, y = max(left + r - p[0], p[0] - right + r), max(top + r - p[1], p[1] - low + r)
+    return math.hypot(max(x, 0.0), max(y, 0.0)) + min(max(x, y), 0.0) - r
+
+
+def bounds_of(text):
+    """The bounds of a line of text, with each letter as wide as is reckoned with."""
+    length, x, y = labels.width_of(text.text or "", has_class(text, "number")), float(text.get("x")), float(text.get("y"))
+    left = x - length / 2 if has_class(text, "middle") else x
+    return left, y - 10, left + length, y + 3
+
+
+def corners(bounds):
+    return [(x, y) for x in bounds[0::2] for y in bounds[1::2]]
+
+
+def pieces_of(path):
+    """The points of a path: of its straight lines, and those close together on its curves."""
+    words = path.get("d").replace(",", " ").split()
+    points, sign, numbers = [], "M", []
+    for word in words + ["Z"]:
+        if word in "MLCZ":
+            points += along(points[-1:] + numbers) if sign == "C" else numbers
+            sign, numbers = word, []
+        elif numbers and len(numbers[-1]) == 1:
+            numbers[-1] += (float(word),)
+        else:
+            numbers.append((float(word),))
+    return points
 
 
 def along(points):
     """Points on a curve of cubic pieces, close together."""
     for i in range(0, len(points) - 3, 3):
-        for step in range(21):
-            t, u = step / 20, 1 - step / 20
+        for step in range(1, 101):
+            t, u = step / 100, 1 - step / 100
             weights = (u**3, 3 * u * u * t, 3 * u * t * t, t**3)
             yield tuple(sum(weight * p[axis] for weight, p in zip(weights, points[i : i + 4])) for axis in (0, 1))
 
 
-def crosses(curve, circles):
-    """Whether the curve goes through a circle."""
-    return any((x - u) ** 2 + (y - v) ** 2 < (r - 0.5) ** 2 for x, y in along(curve) for u, v, r in circles)
+def arrows_of(svg):
+    """Each arrow: what is said of it, the points of its line, and those of its ends, a head's tip or where the line begins."""
+    for group in svg.iter(SVG + "g"):
+        paths = group.findall(SVG + "path")
+        if paths:
+            lines = [pieces_of(path) for path in paths]
+            tips = [line[0] for line in lines[1:]]
+            yield group.find(SVG + "title").text, lines[0], tips if len(tips) == 2 else tips + [lines[0][0]]
 
 
-def is_inside(text, circle):
-    """Whether the letters lie in the circle."""
-    x, y = float(text.get("x")), float(text.get("y"))
-    half = labels.LETTER * len(text.text) / 2
-    u, v, r = (float(circle.get(key)) for key in ("cx", "cy", "r"))
-    corners = [(x + side, y + up) for side in (-half, half) for up in (-10, 2)]
-    return all((a - u) ** 2 + (b - v) ** 2 <= r * r for a, b in corners)
+def evenly(line):
+    """Points on the line, one a unit."""
+    for p, q in zip(line, line[1:]):
+        count = max(1, round(math.dist(p, q)))
+        yield from ((p[0] + (q[0] - p[0]) * i / count, p[1] + (q[1] - p[1]) * i / count) for i in range(count))
+
+
+def share_beside(one, other):
+    """Which part of the first line is within 3 units of the second."""
+    beside = sum(any(abs(p[0] - q[0]) < 3 and math.dist(p, q) < 3 for q in other) for p in one)
+    return beside / max(1, len(one))
+
+
+def told_apart(one, other):
+    """Whether two arrows can be told from each other: by their ends, and along their lines."""
+    if any(math.dist(p, q) < 3 for p in one[2] for q in other[2]):
+        return False
+    here, there = list(evenly(one[1])), list(evenly(other[1]))
+    return share_beside(here, there) <= 0.1 and share_beside(there, here) <= 0.1
+
+
+def confused(svg):
+    """The pairs of arrows that can't be told from each other."""
+    arrows = list(arrows_of(svg))
+    return ["%s / %s" % (a[0], b[0]) for i, a in enumerate(arrows) for b in arrows[:i] if not told_apart(a, b)]
+
+
+def check_outlines(report, what, svg):
+    """Worlds are apart, and within one frame at most; texts are in their outlines and in view."""
+    worlds, frames = boxes_of(svg, "world"), boxes_of(svg, "frame")
+    report.check("%s: worlds" % what, all(apart(a, b) for i, a in enumerate(worlds) for b in worlds[:i]))
+    report.check("%s: frames" % what, all(apart(a, b) for i, a in enumerate(frames) for b in frames[:i]))
+    report.check("%s: worlds and frames" % what, all(within(a, b) or apart(a, b) for a in worlds for b in frames))
+    groups = [(group.findall(SVG + "text"), [part for part in group if has_class(part, "world")]) for group in svg.iter(SVG + "g")]
+    inner = [(bounds_of(text), box_of(parts[-1])) for texts, parts in groups for text in texts]
+    report.check("%s: labels" % what, all(outside(p, box) < 0 for bounds, box in inner for p in corners(bounds)))
+    size = (0, 0, float(svg.get("width")), float(svg.get("height")))
+    report.check("%s: texts" % what, all(within(bounds_of(text), size) for text in svg.iter(SVG + "text")))
+
+
+def check_arrows(report, what, svg):
+    """Arrows are in view, and pass no world and no frame that isn't theirs; and no letters stand on them."""
+    size = (0, 0, float(svg.get("width")), float(svg.get("height")))
+    lines = [line for _, line, _ in arrows_of(svg)]
+    report.check("%s: arrows in view" % what, all(within(p + p, size) for line in lines for p in line))
+    boxes = boxes_of(svg, "world") + boxes_of(svg, "frame")
+    report.check("%s: arrows between outlines" % what, all(outside(p, box) > -1 for line in lines for p in line for box in boxes))
+
+
+def check_words(report, what, svg):
+    """Those who don't see the picture are told of each world and of each arrow."""
+    told = svg.find(SVG + "desc").text
+    parts = [group.find(SVG + "title").text for group in svg.iter(SVG + "g")]
+    report.check("%s: title" % what, svg.get("role") == "img" and bool(svg.find(SVG + "title").text))
+    report.check("%s: description" % what, all(part in told for part in parts), told)
 
 
 def check_picture(report, what, lines):
     svg = tree.fromstring("\n".join(lines))
-    circles = circles_of(svg)
-    report.check("%s: circles" % what, not any(overlap(a, b) for i, a in enumerate(circles) for b in circles[:i]))
-    report.check("%s: texts" % what, all(is_within(svg, text) for text in svg.iter(SVG + "text")))
-    groups = [(group.findall(SVG + "text"), group.findall(SVG + "circle")[-1]) for group in svg.iter(SVG + "g")]
-    report.check("%s: labels" % what, all(is_inside(text, circle) for texts, circle in groups for text in texts))
-    width, height = float(svg.get("width")), float(svg.get("height"))
-    paths = list(paths_of(svg))
-    report.check("%s: arrows in view" % what, all(0 <= x <= width and 0 <= y <= height for _, path in paths for x, y in path))
-    curves = [path for kind, path in paths if kind != "head"]
-    report.check("%s: arrows between circles" % what, not any(crosses(curve, circles) for curve in curves))
+    check_outlines(report, what, svg)
+    check_arrows(report, what, svg)
+    check_words(report, what, svg)
+    return svg
 
 
 def check_models(report):
@@ -210,16 +292,18 @@ def check_graph(report):
 
 
 def check_committed(report):
-    """Each picture of the documents is the one that is drawn of its certificate, and stands in a document."""
+    """Each picture of the documents is the one that is drawn of its certificate, has arrows that can be told apart, and
+    stands in a document."""
     documents = [text_of("README.md")] + [text_of(path) for path in glob.glob(os.path.join(TOP, "docs", "*.md"))]
-    with tempfile.TemporaryDirectory() as folder:
-        for path in sorted(glob.glob(os.path.join(PICTURES, "*.svg"))):
-            name = os.path.basename(path)[: -len(".svg")]
-            stem = name[: -len("-reduced")] if name.endswith("-reduced") else name
-            drawn = os.path.join(folder, "drawn.svg")
-            run("tools/show", "examples/check/%s.txt" % stem, "--svg", drawn, *(["--reduced"] if stem != name else []))
-            report.compare("docs/pictures/%s.svg" % name, text_of(path), text_of(drawn))
-            report.check("%s stands in a document" % name, any("pictures/%s.svg" % name in text for text in documents))
+    names = sorted(os.path.basename(path)[: -len(".svg")] for path in glob.glob(os.path.join(PICTURES, "*.svg")))
+    report.check("pictures of clusters and of rings", {"seven-worlds-in-s5", "five-worlds-in-a-ring"} <= set(names))
+    for name in names:
+        stem = name[: -len("-reduced")] if name.endswith("-reduced") else name
+        drawn, _ = run("tools/show", "examples/check/%s.txt" % stem, "--svg", "-", *(["--reduced"] if stem != name else []))
+        kept = text_of("docs/pictures/%s.svg" % name)
+        report.check("docs/pictures/%s.svg is drawn otherwise" % name, kept == drawn)
+        report.compare("docs/pictures/%s.svg: arrows that can't be told apart" % name, [], confused(check_picture(report, name, [kept])))
+        report.check("%s stands in a document" % name, any("pictures/%s.svg" % name in text for text in documents))
 
 
 def check_smallest(report):

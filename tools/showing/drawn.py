@@ -29,15 +29,15 @@ class Drawn:
         layout = Layout(sizes, others, GAP + (LOOP_GAP if looped else 0), PASSING)
         self.shapes = [node.shape.at(layout.middles[i]) for i, node in enumerate(self.nodes)]
         self.worlds = {w: shapes[w].at(self.place(i, w)) for i, node in enumerate(self.nodes) for w in node.worlds}
-        self.paper, self.arrows = Paper(self.shapes), {}
-        self.draw_arrows(layout, one_for_both_ways(others))
-        self.draw_loops(layout, looped)
+        self.arrows, paper = {}, Paper(self.shapes)
+        self.draw_arrows(paper, layout, one_for_both_ways(others))
+        self.draw_loops(paper, layout, looped)
 
     def place(self, i, w):
         (x, y), (dx, dy) = self.shapes[i].middle, self.nodes[i].places[w]
         return (x + dx, y + dy)
 
-    def draw_arrows(self, layout, arrows):
+    def draw_arrows(self, paper, layout, arrows):
         """The shorter ones first, since they have fewer ways."""
         def length(pair):
             return math.dist(self.shapes[pair[0]].middle, self.shapes[pair[1]].middle), pair
@@ -45,12 +45,12 @@ class Drawn:
         for v, w in sorted(arrows, key=length):
             two_headed = arrows[(v, w)]
             found = ways(self.shapes[v], self.shapes[w], layout.passed.get((v, w), []))
-            self.arrows[(v, w)] = self.paper.add_best(found, (two_headed, True), (v, w)), two_headed
+            self.arrows[(v, w)] = paper.add_best(found, (two_headed, True), (v, w)), two_headed
 
-    def draw_loops(self, layout, looped):
+    def draw_loops(self, paper, layout, looped):
         for i in looped:
             found = loops(self.shapes[i], layout.outward[i])
-            self.arrows[(i, i)] = self.paper.add_best(found, (False, True), (i,)), False
+            self.arrows[(i, i)] = paper.add_best(found, (False, True), (i,)), False
 
     def bounds(self):
         """The left, top, right and lower bounds of all that is drawn."""
@@ -60,3 +60,12 @@ class Drawn:
             points += [(x - wide, y - high), (x + wide, y + high)]
         xs, ys = [p[0] for p in points], [p[1] for p in points]
         return min(xs), min(ys), max(xs), max(ys)
+
+    def move(self, x, y):
+        """Moves all that is drawn so far to the right and down."""
+        def there(p):
+            return (p[0] + x, p[1] + y)
+
+        self.shapes = [shape.at(there(shape.middle)) for shape in self.shapes]
+        self.worlds = {w: shape.at(there(shape.middle)) for w, shape in self.worlds.items()}
+        self.arrows = {pair: ([there(p) for p in points], both) for pair, (points, both) in self.arrows.items()}

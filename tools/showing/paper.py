@@ -7,7 +7,9 @@ from showing.strokes import along
 # how near an arrow may come to a node, an arrow to another, and an end to another, of which one has a head or none
 CLEAR, CLOSE, HEADS_APART, TAILS_APART = 6, 3.5, 9, 5
 MOST_CLOSE = 0.08
-HIT, SHARED, RUNNING = 100.0, 10.0, 30.0
+HIT, SHARED, RUNNING, DETOUR = 100.0, 10.0, 30.0, 4.0
+# a way that is so much longer than the straight one is none the worse for it; and what is less bad than this is good enough
+SHORT, GOOD = 1.15, 0.2
 
 
 def cell_of(p):
@@ -16,6 +18,11 @@ def cell_of(p):
 
 def around(cell):
     return [(cell[0] + i, cell[1] + j) for i in (-1, 0, 1) for j in (-1, 0, 1)]
+
+
+def detour(drawn):
+    """How many times as long as the straight way the arrow is."""
+    return sum(math.dist(p, q) for p, q in zip(drawn, drawn[1:])) / max(1.0, math.dist(drawn[0], drawn[-1]))
 
 
 class Paper:
@@ -62,19 +69,23 @@ class Paper:
                 beside[k] = beside.get(k, 0) + 1
         return sum(max(0.0, count / min(len(drawn), self.counts[k]) - MOST_CLOSE) for k, count in beside.items())
 
-    def badness(self, points, heads, own):
-        """0 where the arrow can be told from all that is drawn."""
+    def badness(self, points, heads, own, most):
+        """How badly the arrow can be told from all that is drawn, and how much of a detour it is, but for a loop; no more is
+        reckoned than is needed to reach the most."""
         drawn = list(along(points))
-        return HIT * self.hits(drawn, own) + SHARED * self.shared(points, heads) + RUNNING * self.running(drawn)
+        bad = DETOUR * max(0.0, detour(drawn) - SHORT) if len(own) > 1 else 0.0
+        bad += SHARED * self.shared(points, heads) if bad < most else 0.0
+        bad += HIT * self.hits(drawn, own) if bad < most else 0.0
+        return bad + (RUNNING * self.running(drawn) if bad < most else 0.0)
 
     def add_best(self, ways, heads, own):
         """Draws the first of the ways that is not bad at all, or else the least bad one, and gives it."""
         best, least = None, math.inf
         for points in ways:
-            bad = self.badness(points, heads, own)
+            bad = self.badness(points, heads, own, least)
             if bad < least:
                 best, least = points, bad
-            if bad == 0:
+            if bad < GOOD:
                 break
         self.add(best, heads)
         return best

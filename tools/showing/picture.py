@@ -8,7 +8,7 @@ from showing import told
 from showing.drawn import Drawn
 from showing.labels import LINE, width_of, wrapped
 from showing.nodes import RING, arrows_between, groups_of, nodes_of
-from showing.strokes import number, outline, stroke, text_line
+from showing.strokes import outline, stroke, text_line
 
 MOST_ARROWS = 600
 SIZE = re.compile('width="([0-9]+)" height="([0-9]+)"')
@@ -91,9 +91,8 @@ def lines(model, arrows, caption):
     yield from opening(size, caption[0] if caption else "A Kripke model", told.description(model, drawn))
     yield "<style>%s</style>" % STYLE
     yield '<rect width="100%" height="100%" fill="white"/>'
-    yield '<g transform="translate(%s %s)">' % (number((width - left - right) / 2), number(MARGIN - top))
+    drawn.move((width - left - right) / 2, MARGIN - top)
     yield from contents(drawn, model)
-    yield "</g>"
     for i, text in enumerate(captions):
         yield text_line(MARGIN, below + LINE * (i + 0.5), "caption", text)
     yield "</svg>"

@@ -5,7 +5,9 @@ import math
 from showing.strokes import toward
 
 FAR = 10000.0
-SIDEWAYS = (0.0, 0.3, -0.3, 0.6, -0.6)
+# how far beside the middles of its outlines an arrow may aim at its start and at its end, the nearest first
+ASIDE = (0.0, 0.35, -0.35, 0.7, -0.7)
+SIDEWAYS = sorted(((one, other) for one in ASIDE for other in ASIDE), key=lambda pair: abs(pair[0]) + abs(pair[1]))
 LITTLE, MORE = (0.25, -0.25, 0.5, -0.5), (0.8, -0.8, 1.2, -1.2, 1.7, -1.7, 2.2, -2.2)
 LOOP_ANGLES = (-45, -135, 45, 135, 0, 180, -90, 90, -20, -65, 20, 65, 155, -155)
 LOOP_OPENING, LOOP_BULGE = 26, 24
@@ -21,11 +23,15 @@ def moved(p, by, times=1.0):
     return (p[0] + times * by[0], p[1] + times * by[1])
 
 
+def aside(shape, start, end, part):
+    """A point in the outline, beside its middle as one looks along the way, by this part of its lesser half."""
+    return moved(shape.middle, beside(start, end, part * min(shape.width, shape.height) / 2))
+
+
 def straight(one, other, sideways):
-    """The line from middle to middle, or beside it, by this part of the smaller outline's half."""
-    room = min(one.width, one.height, other.width, other.height) / 2
-    by = beside(one.middle, other.middle, sideways * room)
-    start, end = moved(one.middle, by), moved(other.middle, by)
+    """The line from middle to middle, or from and to points beside them."""
+    start = aside(one, one.middle, other.middle, sideways[0])
+    end = aside(other, one.middle, other.middle, sideways[1])
     return [one.crossing(start, end), other.crossing(end, start)]
 
 
@@ -38,39 +44,42 @@ def bent(one, other, bend):
     return [start, toward(start, aim, 2 / 3 * math.dist(start, aim)), toward(end, aim, 2 / 3 * math.dist(end, aim)), end]
 
 
-def upright(upper, lower):
-    """The inner points of a piece that leaves the upper point and meets the lower one upright."""
-    half = (upper[1] + lower[1]) / 2
-    return [(upper[0], half), (lower[0], half)]
-
-
-def through(one, other, passed):
-    """A curve through the rows between: upright in each, and slanting between them."""
-    stops = [stop for x, y, half in passed for stop in ((x, y - half), (x, y + half))]
-    stops = [one.crossing(one.middle, stops[0])] + stops + [other.crossing(other.middle, stops[-1])]
+def rounded(stops):
+    """A curve through these points, at each of which it goes in the direction from the one before to the one behind."""
     points = stops[:1]
-    for upper, lower in zip(stops, stops[1:]):
-        points += upright(upper, lower) + [lower]
+    for before, one, other, behind in zip(stops[:1] + stops, stops, stops[1:], stops[2:] + stops[-1:]):
+        leaving = ((other[0] - before[0]) / 6, (other[1] - before[1]) / 6)
+        meeting = ((behind[0] - one[0]) / 6, (behind[1] - one[1]) / 6)
+        points += [moved(one, leaving), moved(other, meeting, -1.0), other]
     return points
+
+
+def through(one, other, passed, sideways):
+    """A curve past the nodes of the rows between, where there is room for it."""
+    stops = [(x, y) for x, y, _ in passed]
+    start = aside(one, one.middle, stops[0], sideways[0])
+    end = aside(other, stops[-1], other.middle, sideways[1])
+    return rounded([one.crossing(start, stops[0])] + stops + [other.crossing(end, stops[-1])])
 
 
 def ways(one, other, passed):
     """The ways of an arrow between these outlines, which passes these rows."""
     yield from (straight(one, other, sideways) for sideways in SIDEWAYS)
     yield from (bent(one, other, bend) for bend in LITTLE)
-    if passed:
-        yield through(one, other, passed)
+    yield from (through(one, other, passed, sideways) for sideways in SIDEWAYS if passed)
     yield from (bent(one, other, bend) for bend in MORE)
 
 
 def loop(shape, angle):
-    """A loop at the outline, in this direction, in degrees from the right downward."""
-    middle, ends = shape.middle, []
+    """A loop at the outline, in this direction, in degrees from the right downward; at a box, near one of its corners."""
+    out = (math.cos(math.radians(angle)), math.sin(math.radians(angle)))
+    room = min(shape.width, shape.height) / 2
+    inward = math.copysign(shape.width / 2 - room, out[0]), math.copysign(shape.height / 2 - room, out[1])
+    middle, ends = moved(shape.middle, inward), []
     for turn in (-LOOP_OPENING, LOOP_OPENING):
         a = math.radians(angle + turn)
         ends.append(shape.crossing(middle, moved(middle, (math.cos(a), math.sin(a)), FAR)))
-    out = (8 * math.cos(math.radians(angle)), 8 * math.sin(math.radians(angle)))
-    inner = [moved(toward(end, middle, -LOOP_BULGE), out) for end in ends]
+    inner = [moved(toward(end, middle, -LOOP_BULGE), out, 8.0) for end in ends]
     return [ends[0]] + inner + [ends[1]]
 
 

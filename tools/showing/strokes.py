@@ -7,7 +7,7 @@ import math
 from xml.sax.saxutils import escape
 
 HEAD, HALF_HEAD = 9, 4
-APART = 2.5
+APART = 4
 
 
 def number(value):

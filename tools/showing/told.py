@@ -33,9 +33,8 @@ def legend(nodes):
     """What has to be said of frames, where there are some."""
     if not any(node.is_frame for node in nodes):
         return []
-    if len(nodes) == 1:
-        return ["Each world in the frame sees each of them."]
-    return ["Each world in a frame sees each of them; an arrow at a frame stands for one at each of its worlds."]
+    meaning = "The worlds in %s frame all see each other and themselves" % ("the" if len(nodes) == 1 else "a")
+    return [meaning + ("." if len(nodes) == 1 else "; an arrow at a frame stands for one at each of its worlds.")]
 
 
 def description(model, drawn):
