@@ -1,11 +1,14 @@
 """Whether tools/show shows proofs in all their forms: briefly, shared, in signs, and as trees of which no two branches overlap."""
 
+import os
+import tempfile
 import xml.etree.ElementTree as tree
 
 from certificates.calculus import premises
 from certificates.formulas import spelled, subformulas
 from certificates.judge import verdict
 from certificates.texts import read
+from checks.report import text_of
 from checks.running import run
 from checks.show import SVG, data_of, names_of_certificates
 from showing import proof_picture, sharing
@@ -172,8 +175,21 @@ def check_trees(report):
     for times, count in ((6, 191), (7, 16)):
         # 383 steps close 9 sets, and each of 7 doublings has a second half, which is closed as the first one
         check_tree(report, "%d doublings" % times, proof_picture.lines("k", *doubled(times), True), count)
-    drawn = "\n".join(proof_picture.lines(*read(data_of("loeb-in-gl")), True)).replace("&gt;", ">")
+    drawn = run("tools/show", "examples/check/loeb-in-gl.txt", "--tree")[0].replace("&gt;", ">")
     report.check("tree of loeb-in-gl: titles", "<title>%s</title>" % LOEB_TITLE in drawn and drawn.count('class="world"') == 2, drawn)
+
+
+def check_files(report):
+    """The tree of the documents is the one that is drawn, and several pictures of one text have numbers, in their order."""
+    loeb = "examples/check/loeb-in-gl.txt"
+    report.compare("docs/pictures/trees/loeb-in-gl.svg", text_of("docs/pictures/trees/loeb-in-gl.svg"), run("tools/show", loeb, "--tree")[0])
+    with tempfile.TemporaryDirectory() as folder:
+        status = run("tools/show", "examples/run/workbench.expected", "--tree", "--svg", os.path.join(folder, "out-%d.svg"))[1]
+        files = sorted(os.listdir(folder))
+        kinds = ['class="tree"' in text_of(os.path.join(folder, name)) for name in files]
+        report.compare("trees and models with numbers", (0, ["out-1.svg", "out-2.svg"], [True, False]), (status, files, kinds))
+    told, status = run("tools/show", loeb, "--svg", "-")
+    report.check("show --svg of a proof", status == 1 and told.count("\n") == 1 and "--tree" in told, told)
 
 
 def check_all(report):
@@ -181,3 +197,4 @@ def check_all(report):
     check_tables(report)
     check_texts(report)
     check_trees(report)
+    check_files(report)
