@@ -11,7 +11,9 @@ from checks.show import data_of, models
 from showing import cases, latex, picture, tikz, views
 from showing.signs import in_latex
 
-PAGES = ("loeb-in-gl", "loeb-in-k", "two-worlds-see-each-other")
+PAGES = ("loeb-in-gl", "loeb-in-k", "two-worlds-see-each-other", "dead-end-in-kt", "two-spaces")
+# what is said of pages 4 and 5, the one with a model that is rejected, and the other with no certificate
+FAULTS = ("rejected: model: the relation isn't one of KT: world 0 doesn't see itself.", ":39: fault: line 6: proof text")
 FORMULA = b"box ~p1 v dia(q & true) -> (p <-> false) v good_name"
 FORMULA_WRITTEN = r"\Box \neg p_{1} \lor \Diamond (q \land \top) \to (p \leftrightarrow \bot) \lor \mathit{good\_name}"
 # the tree of a proof by hand
@@ -75,17 +77,27 @@ def has_latex():
     return subprocess.run(["kpsewhich", "forest.sty"], stdout=subprocess.DEVNULL, check=False).returncode == 0
 
 
+def document(folder):
+    """A document with several certificates, as a script's output could have them."""
+    output = os.path.join(folder, "output.txt")
+    with open(output, "wb") as file:
+        file.writelines(data_of(name) for name in PAGES)
+    return run("tools/show", output, "--latex")
+
+
+def check_document(report):
+    with tempfile.TemporaryDirectory() as folder:
+        written, status = document(folder)
+    report.check("show --latex of several certificates", status == 1 and all(words in written for words in FAULTS), written)
+
+
 def check_compiled(report):
-    """A document of two proofs and a model, as a script's output could have them."""
     if not has_latex():
         print("tools: LaTeX skipped, since pdflatex with the package forest isn't installed")
         return
     with tempfile.TemporaryDirectory() as folder:
-        output = os.path.join(folder, "output.txt")
-        with open(output, "wb") as file:
-            file.writelines(data_of(name) for name in PAGES)
         with open(os.path.join(folder, "paper.tex"), "w", encoding="utf-8") as file:
-            file.write(run("tools/show", output, "--latex")[0])
+            file.write(document(folder)[0])
         command = ["pdflatex", "-interaction=nonstopmode", "-halt-on-error", "paper.tex"]
         done = subprocess.run(command, cwd=folder, stdout=subprocess.PIPE, stderr=subprocess.STDOUT, check=False)
     told = done.stdout.decode("utf-8", "replace")
@@ -96,4 +108,5 @@ def check_compiled(report):
 def check_all(report):
     check_words(report)
     check_drawing(report)
+    check_document(report)
     check_compiled(report)

@@ -114,16 +114,24 @@ def of_model(case, views):
         told = tikz.text(caption)
     else:
         told = ("$%s$" % in_latex(case.goal)).join(tikz.text(part) for part in caption.split(in_unicode(case.goal)))
-    return Figure(list(tikz.drawing(lines)), tikz.size_of(lines), "tikz", told)
+    return Figure(list(tikz.drawing(lines)), tikz.size_of(lines), "tikz", told + fault_of(case))
+
+
+def fault_of(case):
+    """Why a certificate's model doesn't refute its formula."""
+    found = case.goal and reasons.of_model(case.logic, case.goal, case.body)
+    return " " + tikz.text("%s: %s." % (case.line, found)) if found else ""
 
 
 def figures(found, shown):
-    """A figure of each proof and of each model, in their order. Raises TooLarge."""
+    """A figure of each proof and of each model, in their order; of what is neither the checker's line alone. Raises TooLarge."""
     for number, case in enumerate(found):
         if number in shown:
             yield of_model(case, shown[number])
         elif case.is_proof():
             yield of_proof(case)
+        else:
+            yield Figure([], (0, 0), None, tikz.text(case.place + case.line))
 
 
 def preamble(drawn):
@@ -131,7 +139,7 @@ def preamble(drawn):
     height = max([200] + [figure.size[1] for figure in drawn]) + 4 * MARGIN
     yield r"\documentclass{article}"
     yield r"\usepackage{amssymb}"
-    for package in sorted({figure.package for figure in drawn}):
+    for package in sorted({figure.package for figure in drawn if figure.package}):
         yield r"\usepackage{%s}" % package
     yield r"\usepackage[paperwidth=%dpt,paperheight=%dpt,margin=%dpt]{geometry}" % (width, height, MARGIN)
     yield r"\pagestyle{empty}"
