@@ -172,9 +172,11 @@ def check_trees(report):
         # no set of the longer proof is closed twice either
         if len(steps) < FOLDED_FROM or name == PIGEONS:
             check_tree(report, name, proof_picture.lines(logic, goal, steps, True), len(steps))
-    for times, count in ((6, 191), (7, 16)):
-        # 383 steps close 9 sets, and each of 7 doublings has a second half, which is closed as the first one
-        check_tree(report, "%d doublings" % times, proof_picture.lines("k", *doubled(times), True), count)
+    # 383 steps close 9 sets, and each of 7 doublings has a second half, which is closed as the first one
+    for times, count, told in ((6, 191, "191 steps."), (7, 16, "383 steps, of which 9 are drawn; in 7 further boxes ")):
+        drawn = list(proof_picture.lines("k", *doubled(times), True))
+        check_tree(report, "%d doublings" % times, drawn, count)
+        report.check("%d doublings in words" % times, told in "\n".join(drawn[:6]))
     drawn = run("tools/show", "examples/check/loeb-in-gl.txt", "--tree")[0].replace("&gt;", ">")
     report.check("tree of loeb-in-gl: titles", "<title>%s</title>" % LOEB_TITLE in drawn and drawn.count('class="world"') == 2, drawn)
 

@@ -65,18 +65,28 @@ def visits(logic, goal, steps):
         yield visit
 
 
+class Unfinished:
+    """A step, and how many of its premises aren't closed yet; one that breaks its rule is never closed."""
+
+    def __init__(self, visit):
+        self.visit, self.wanting = visit, 1 if visit.left is None else len(visit.left)
+
+
+def taken_ends(unfinished):
+    """Takes the steps that are closed whole from the end of the list: the innermost first."""
+    while unfinished and unfinished[-1].wanting == 0:
+        yield unfinished.pop().visit
+        if unfinished:
+            unfinished[-1].wanting -= 1
+
+
 def with_ends(steps):
     """Each of these steps, with those that are closed whole once it is: the innermost first, and none behind a step that
     has premises or that breaks its rule."""
     unfinished = []
     for visit in steps:
-        unfinished.append([visit, 1 if visit.left is None else len(visit.left)])
-        ended = []
-        while unfinished and unfinished[-1][1] == 0:
-            ended.append(unfinished.pop()[0])
-            if unfinished:
-                unfinished[-1][1] -= 1
-        yield visit, ended
+        unfinished.append(Unfinished(visit))
+        yield visit, list(taken_ends(unfinished))
 
 
 def closing(visit, signed_text):

@@ -19,6 +19,12 @@ def is_folded(steps):
     return len(steps) >= FOLDED_FROM
 
 
+def note(closed_by, ended):
+    """Notes under each set the first step that closes it whole."""
+    for visit in ended:
+        closed_by.setdefault(visit.have, visit.number)
+
+
 def drawn(steps, fold):
     """The steps that are drawn, with the number that each cites or None. A set cites a step that is closed whole before it."""
     closed_by, folded = {}, None
@@ -29,8 +35,7 @@ def drawn(steps, fold):
             folded = visit if cited is not None else None
         if folded in ended:
             folded = None
-        for closed in ended:
-            closed_by.setdefault(closed.have, closed.number)
+        note(closed_by, ended)
 
 
 def nodes(logic, goal, steps):
@@ -65,9 +70,9 @@ def told_size(found, steps):
     """How much of the proof is drawn."""
     folded = sum(1 for node in found if node.cited is not None)
     told = counted(len(steps), "step")
-    if is_folded(steps):
-        told += ", of which %d are drawn; %s as before, and cite the step that closes them" % (
+    if folded:
+        told += ", of which %d are drawn; in %s a set was closed before, and cites the step that closed it" % (
             len(found) - folded,
-            "%s closed" % counted(folded, "set") + (" is" if folded == 1 else " are"),
+            "1 further box" if folded == 1 else "%d further boxes" % folded,
         )
     return told

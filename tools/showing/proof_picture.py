@@ -140,11 +140,7 @@ def lines(logic, goal, steps, is_proof, name="tree"):
     title = "%s of %s in %s, as a tree" % ("A proof" if is_proof else "No proof", printed(goal), LOGIC_NAMES[logic])
     size = (width + 2 * MARGIN, ROW * rows + 2 * MARGIN)
     yield from opening(size, name, title, description(logic, goal, steps, found))
-    for one in shown:
-        if one.box.is_framed:
-            yield from frame_lines(one)
-        for below in one.box.below:
-            yield from edge_lines(one.box, below)
-    for one in shown:
-        yield from box_lines(one)
+    yield from (line for one in shown if one.box.is_framed for line in frame_lines(one))
+    yield from (line for one in shown for below in one.box.below for line in edge_lines(one.box, below))
+    yield from (line for one in shown for line in box_lines(one))
     yield "</svg>"
