@@ -8,7 +8,9 @@ from showing.paper import Paper
 from showing.routes import loops, ways
 from showing.strokes import along
 
-GAP, LOOP_GAP, PASSING = 34, 18, 22
+GAP, LOOP_GAP = 34, 18
+# how far the nodes may be spread, and how bad an arrow may be before they are spread farther
+SPREADS, CONFUSED = (1.0, 1.4, 2.0), 3.0
 
 
 def one_for_both_ways(arrows):
@@ -19,19 +21,21 @@ def one_for_both_ways(arrows):
 
 class Drawn:
     """The nodes, the outline of each in its place, the label and the outline of each world, and the arrows: for each pair of
-    nodes its points and whether it has two heads; that of a loop is of a node with itself."""
+    nodes its points and whether it has two heads; that of a loop is of a node with itself. `worst` is how badly
+    one of them can be told from the others."""
 
-    def __init__(self, model, arrows):
+    def __init__(self, model, arrows, spread):
         sees, facts, self.refuted = model
         self.nodes, self.labels, shapes = nodes_of(sees, facts, self.refuted)
         others, looped = arrows_between(self.nodes, arrows)
         sizes = [(node.shape.width, node.shape.height) for node in self.nodes]
-        layout = Layout(sizes, others, GAP + (LOOP_GAP if looped else 0), PASSING)
+        layout = Layout(sizes, others, GAP + (LOOP_GAP if looped else 0), spread)
         self.shapes = [node.shape.at(layout.middles[i]) for i, node in enumerate(self.nodes)]
         self.worlds = {w: shapes[w].at(self.place(i, w)) for i, node in enumerate(self.nodes) for w in node.worlds}
         self.arrows, paper = {}, Paper(self.shapes)
         self.draw_arrows(paper, layout, one_for_both_ways(others))
         self.draw_loops(paper, layout, looped)
+        self.worst = paper.worst
 
     def place(self, i, w):
         (x, y), (dx, dy) = self.shapes[i].middle, self.nodes[i].places[w]
@@ -69,3 +73,16 @@ class Drawn:
         self.shapes = [shape.at(there(shape.middle)) for shape in self.shapes]
         self.worlds = {w: shape.at(there(shape.middle)) for w, shape in self.worlds.items()}
         self.arrows = {pair: ([there(p) for p in points], both) for pair, (points, both) in self.arrows.items()}
+
+
+def drawn_of(model, arrows):
+    """The model on paper, its nodes spread as far as is needed to tell the arrows apart; where that isn't reached, as well as
+    may be."""
+    best = None
+    for spread in SPREADS:
+        drawn = Drawn(model, arrows, spread)
+        if best is None or drawn.worst < best.worst:
+            best = drawn
+        if best.worst < CONFUSED:
+            break
+    return best

@@ -8,6 +8,7 @@ from showing.layers import knots_of, layer_of_each
 from showing.rings import extent, places_of
 
 ROUNDS = 12
+PASSING, ROW_GAP, MORE_GAP = 22, 64, 60
 
 
 class Slot:
@@ -131,18 +132,19 @@ def row_heights(rows, gap):
 
 
 class Layout:
-    """The middle of each node, and for each arrow between rows the middle and half the height of each row that it passes."""
+    """The middle of each node, its offset from the middle of its ring, and for each arrow between rows the middle and half the
+    height of each row that it passes. The distances between nodes are `gap` and more, times the spread."""
 
-    def __init__(self, sizes, arrows, gap, passing):
+    def __init__(self, sizes, arrows, gap, spread):
         knots = knots_of(len(sizes), arrows)
         layer = layer_of_each(len(sizes), arrows, knots)
-        slots = [node_slot(layer[knot[0]], knot, sizes, arrows, gap) for knot in knots]
-        ways = passing_slots(arrows, {i: slot for slot in slots for i in slot.places}, passing)
+        slots = [node_slot(layer[knot[0]], knot, sizes, arrows, gap * spread) for knot in knots]
+        ways = passing_slots(arrows, {i: slot for slot in slots for i in slot.places}, PASSING * spread)
         join(ways)
         rows = order_rows(rows_of(slots, ways))
         place_rows(rows)
         width = max(slot.x + slot.width / 2 for row in rows for slot in row) - min(slot.x - slot.width / 2 for row in rows for slot in row)
-        heights = row_heights(rows, 64 + min(60, width // 12))
+        heights = row_heights(rows, spread * (ROW_GAP + min(MORE_GAP, width // 12)))
         self.middles, self.outward = {}, {}
         for slot in slots:
             for i, (x, y) in slot.places.items():

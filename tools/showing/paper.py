@@ -26,10 +26,10 @@ def detour(drawn):
 
 
 class Paper:
-    """The nodes' outlines, and the arrows with the points along them and their ends."""
+    """The nodes' outlines, the arrows with the points along them and their ends, and how bad the worst of them is."""
 
     def __init__(self, shapes):
-        self.shapes, self.cells, self.counts, self.ends = shapes, {}, [], []
+        self.shapes, self.cells, self.counts, self.ends, self.worst = shapes, {}, [], [], 0.0
 
     def add(self, points, heads):
         """Draws the arrow; `heads` says of its two ends whether they have one."""
@@ -88,4 +88,5 @@ class Paper:
             if bad < GOOD:
                 break
         self.add(best, heads)
+        self.worst = max(self.worst, least)
         return best

@@ -5,7 +5,7 @@ import re
 from xml.sax.saxutils import escape
 
 from showing import told
-from showing.drawn import Drawn
+from showing.drawn import drawn_of
 from showing.labels import LINE, width_of, wrapped
 from showing.nodes import RING, arrows_between, groups_of, nodes_of
 from showing.strokes import outline, stroke, text_line
@@ -82,7 +82,7 @@ def refuse_too_many(model, arrows):
 def lines(model, arrows, caption):
     """The picture, with the lines of its caption below. Raises TooManyArrows."""
     refuse_too_many(model, arrows)
-    drawn = Drawn(model, arrows)
+    drawn = drawn_of(model, arrows)
     left, top, right, low = drawn.bounds()
     width = max(LEAST_WIDTH, math.ceil(right - left) + 2 * MARGIN)
     below = math.ceil(low - top) + 2 * MARGIN

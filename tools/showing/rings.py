@@ -2,7 +2,7 @@
 
 import math
 
-MANY = 12
+MANY, WIDER = 12, 1.4
 
 
 def order_of(nodes, arrows):
@@ -18,7 +18,7 @@ def order_of(nodes, arrows):
 
 def radius_of(count, size, gap):
     """The radius of a ring on which so many nodes of this size are apart; where they aren't many, no arrow past one touches it."""
-    beside = (size + gap) / (2 * math.sin(math.pi / count))
+    beside = (size + WIDER * gap) / (2 * math.sin(math.pi / count))
     return max(beside, (size / 2 + 10) / (1 - math.cos(2 * math.pi / count))) if 3 < count <= MANY else beside
 
 
