@@ -6,8 +6,9 @@ from html.parser import HTMLParser
 
 from certificates.formulas import spelled
 from checks import browser, closed_pipes
+from checks.bench import PROGRAM
 from checks.report import text_of
-from checks.running import run
+from checks.running import loaded, run
 from checks.shown_proofs import doubled
 from showing import page_proofs
 
@@ -114,6 +115,37 @@ def check_left(report, folder):
     report.compare("nothing is left beside the page", ["left.html", "out.html"], sorted(os.listdir(folder)))
 
 
+def check_runs(report, folder):
+    """A launcher that ends with each status: the page has what it wrote and said, and there is none where the run had no end."""
+    tool, out = loaded("tools/page"), os.path.join(folder, "run.html")
+    before, tool.LAUNCHER = tool.LAUNCHER, os.path.join(folder, "launcher")
+    for status, has_page in ((0, True), (1, True), (3, False), (4, False), (5, False), (70, False), (124, False)):
+        with open(tool.LAUNCHER, "w", encoding="utf-8") as file:
+            file.write('#!/bin/sh\necho "$1 <b> &amp;"; echo "said <i>" >&2; exit %d\n' % status)
+        os.chmod(tool.LAUNCHER, 0o755)
+        told, ended = run("tools/page", "examples/run/loops.txt", "-o", out)
+        texts = Read(text_of(out)).texts if os.path.exists(out) else {}
+        wanted = ("run <b> &amp;\n", "said <i>\n") if has_page else (None, None)
+        report.compare("page of a run with status %d" % status, (status,) + wanted, (ended, texts.get("output"), texts.get("said")))
+        if has_page:
+            os.remove(out)
+    os.remove(tool.LAUNCHER)
+    tool.LAUNCHER = before
+
+
+def check_program(report, folder):
+    """The page of the built program's run has what the example is to write."""
+    if not os.path.exists(PROGRAM):
+        print("tools: tools/page is given no script to run: the program isn't built")
+        return
+    out = os.path.join(folder, "run.html")
+    for name, wanted in (("loops", 0), ("fault-kind", 1)):
+        status = run("tools/page", "examples/run/%s.txt" % name, "-o", out)[1]
+        shown = Read(text_of(out)).texts.get("output")
+        report.compare("page of a run of %s" % name, (wanted, text_of("examples/run/%s.expected" % name)), (status, shown))
+    os.remove(out)
+
+
 def check_folding(report):
     """Each drawn step of a proof is in the list once, and lists don't stand in one another without end."""
     boxes = "box " * 300
@@ -134,5 +166,7 @@ def check_all(report):
         check_examples(report, folder)
         check_rejected(report, folder)
         check_left(report, folder)
+        check_runs(report, folder)
+        check_program(report, folder)
         text, _ = page_of(folder, "examples/run/workbench.txt", "examples/run/workbench.expected")
         browser.check(report, folder, text, text_of("examples/run/workbench.expected"))
