@@ -8,10 +8,11 @@ from certificates.calculus import premises
 from certificates.formulas import spelled, subformulas
 from certificates.judge import verdict
 from certificates.texts import read
+from checks.choices import Choices
 from checks.report import text_of
 from checks.running import run
 from checks.show import SVG, data_of, names_of_certificates
-from showing import proof_picture, sharing
+from showing import contours, proof_picture, sharing
 from showing.proof_nodes import FOLDED_FROM
 
 PIGEONS = "five-pigeons-in-four-holes"
@@ -181,6 +182,50 @@ def check_trees(report):
     report.check("tree of loeb-in-gl: titles", "<title>%s</title>" % LOEB_TITLE in drawn and drawn.count('class="world"') == 2, drawn)
 
 
+def tree_by_chance(choices, count):
+    """Boxes of all sizes, of which each but the first stands below one before it that has at most one below it so far."""
+    boxes = [contours.Box(1 + choices.below(6), 2 * (20 + choices.below(200)), True, 90)]
+    while len(boxes) < count:
+        above = boxes[-1 - choices.below(min(len(boxes), 6))]
+        if len(above.below) < 2 and not any(other.is_framed for other in above.below):
+            is_framed = not above.below and choices.below(4) == 0
+            boxes.append(contours.Box(1 + choices.below(6), 2 * (20 + choices.below(200)), is_framed, 90))
+            above.below.append(boxes[-1])
+    return boxes
+
+
+def in_order(boxes):
+    """The boxes of a tree, each before those below it, and a first one below before a second one."""
+    found, waiting = [], [boxes[0]]
+    while waiting:
+        found.append(waiting.pop())
+        waiting += reversed(found[-1].below)
+    return found
+
+
+def outline(box, left, top, right, low):
+    """A rectangle in the middle of the box, in units and rows."""
+    return Rectangle({"x": box.x + left, "y": top, "width": right - left, "height": low - top})
+
+
+def check_chance(report):
+    """No two boxes of a tree by chance overlap, and a frame has what stands below its box, and nothing else."""
+    choices = Choices(7)
+    for number in range(40):
+        boxes = in_order(tree_by_chance(choices, 60))
+        contours.place(boxes)
+        shapes = [outline(box, -box.width / 2, box.row, box.width / 2, box.row + box.rows) for box in boxes]
+        apart = not any(one.meets(other) for i, one in enumerate(shapes) for other in shapes[:i])
+        inside = all(is_framed_well(box, boxes, shapes) for box in boxes if box.is_framed)
+        report.check("tree by chance %d" % number, apart and inside, "overlaps" if inside else "frames")
+
+
+def is_framed_well(box, boxes, shapes):
+    left, right, rows = box.frame
+    frame, own = outline(box, left, box.row - 1, right, box.row - 1 + rows), {id(other) for other in in_order([box])}
+    return all(frame.has(shape) if id(other) in own else not frame.meets(shape) for other, shape in zip(boxes, shapes))
+
+
 def check_files(report):
     """The tree of the documents is the one that is drawn, and several pictures of one text have numbers, in their order."""
     loeb = "examples/check/loeb-in-gl.txt"
@@ -200,4 +245,5 @@ def check_all(report):
     check_tables(report)
     check_texts(report)
     check_trees(report)
+    check_chance(report)
     check_files(report)
