@@ -8,6 +8,7 @@ from checks.report import TOP
 CERTIFICATE = "examples/check/loeb-in-gl.txt"
 MODEL = "examples/check/one-dead-end.txt"
 FORMULA = "examples/from-other/dfg/box-and-dia.dfg"
+SCRIPT = "examples/run/proof"
 READERS = (("check-certificate",), ("show",), ("from-other", "dfg"), ("explain", "--check"))
 WRITERS = (
     ("check-certificate", CERTIFICATE),
@@ -16,6 +17,10 @@ WRITERS = (
     ("show", CERTIFICATE),
     ("show", MODEL, "--svg", "-"),
     ("show", MODEL, "--dot", "-"),
+    ("show", CERTIFICATE, "--tree"),
+    ("show", CERTIFICATE, "--shared"),
+    ("show", CERTIFICATE, "--latex"),
+    ("page", SCRIPT + ".txt", "--output", SCRIPT + ".expected", "-o", "-"),
     ("from-other", "dfg", FORMULA),
     ("trusted-reading", "--total"),
     ("ask", "k", "p"),

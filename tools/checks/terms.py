@@ -1,22 +1,36 @@
-"""Whether what users read of models is said in the field's words, and where."""
+"""Whether the documents for users, and what the tools print, use the subject's words, and no others for the same."""
+
+import re
 
 from checks.report import text_of
 
-# the words of the field, and the documents that have them
-WORDS = {
-    "docs/TOUR.md": ("*Kripke model*", "*accessibility relation*", "reflexive", "symmetric", "transitive", "*cluster*", "*bisimulation quotient*"),
-    "docs/LANGUAGE.md": ("Kripke model", "reflexive", "symmetric", "transitive", "bisimulation quotient"),
-    "README.md": ("bisimulation quotient", "reflexive", "symmetric", "transitive"),
+# each document with words of the subject that it has to have
+DOCUMENTS = {
+    "README.md": ("bisimulation quotient", "reflexive", "run-time error", "symmetric", "transitive"),
+    "docs/TOUR.md": ("Kripke model", "accessibility relation", "bisimulation quotient", "cluster", "reflexive", "symmetric", "tableau", "transitive"),
+    "docs/LANGUAGE.md": ("Kripke model", "bisimulation quotient", "refusal", "reflexive", "run-time error", "symmetric", "transitive"),
+    "docs/CERTIFICATES.md": ("Kripke model", "accessibility"),
+    "docs/PROVERS.md": ("tableau",),
 }
-# what was said in their place
-OTHERS = ("smallest equal model", "loops and arrows")
-READ = ("README.md", "docs/TOUR.md", "docs/LANGUAGE.md", "docs/CERTIFICATES.md", "docs/PROVERS.md", "tools/show", "tools/showing/views.py", "tools/showing/told.py")
+TOOLS = ("tools/show", "tools/showing/told.py", "tools/showing/views.py")
+# words that stand for something that has another name
+OTHERS = ("bisimulation-quotient", "loops and arrows", "runtime error", "smallest equal model", "tableaus", "trouble", "troubles")
+
+
+def prose(text):
+    """The text without what is quoted from programs: lines that are set in, and what stands between backquotes."""
+    lines = [line for line in text.split("\n") if not line.startswith("    ")]
+    return re.sub("`[^`]*`", "", "\n".join(lines))
+
+
+def found(words, text):
+    return [word for word in words if re.search(r"\b%s\b" % re.escape(word), text, re.IGNORECASE)]
 
 
 def check_all(report):
-    for path, words in WORDS.items():
-        for word in words:
-            report.check("%s says %s" % (path, word), word in text_of(path))
-    for path in READ:
-        for other in OTHERS:
-            report.check("%s says %s" % (path, other), other not in text_of(path))
+    for path, wanted in DOCUMENTS.items():
+        text = prose(text_of(path))
+        report.compare("%s: words that have another name" % path, [], found(OTHERS, text))
+        report.compare("%s: words of the subject" % path, list(wanted), found(wanted, text))
+    for path in TOOLS:
+        report.compare("%s: words that have another name" % path, [], found(OTHERS, text_of(path)))
