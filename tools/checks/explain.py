@@ -7,7 +7,7 @@ import tempfile
 
 from checks.report import TOP, text_of
 from explaining import faults, papers
-from explaining.grammar import first_fault
+from explaining.grammar import fault_line, first_fault
 from explaining.guesses import guess, mended
 
 # a script with one mistake, what the first line begins with, and the text as it was meant
@@ -120,7 +120,7 @@ def check_examples(report):
         last = (text_of(path[:-3] + "expected").splitlines() or [""])[-1]
         with open(path, "rb") as file:
             fault = first_fault(file.read())
-        told = "fault: line %d column %d: %s" % (fault.line, fault.column, fault.kind) if fault else ""
+        told = fault_line(fault) if fault else ""
         report.compare("the fault of %s" % os.path.basename(path), last if " column " in last else "", told)
 
 

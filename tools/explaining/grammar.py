@@ -3,7 +3,7 @@
 import sys
 from collections import namedtuple
 
-from explaining.tokens import FUNCTIONS, LOGICS, RESERVED, STATEMENTS, place, tokens
+from explaining.tokens import FUNCTIONS, LOGICS, RESERVED, STATEMENTS, end_of, place, tokens
 
 NESTING_LIMIT = 400
 NAME_LIMIT = 64
@@ -34,10 +34,12 @@ class Stop(Exception):
 
 
 class Reader:
-    """Reads a script by recursive descent. `opened` holds the tokens whose bracket or statement isn't closed."""
+    """Reads a script by recursive descent. `opened` holds the tokens whose bracket or statement isn't closed, `ends` the
+    offsets behind the script's statements that are read whole, apart from those within others.
+    """
 
     def __init__(self, data):
-        self.tokens, self.at, self.depth, self.opened = tokens(data), 0, 0, []
+        self.tokens, self.at, self.depth, self.opened, self.ends = tokens(data), 0, 0, [], []
 
     def token(self):
         return self.tokens[self.at]
@@ -69,13 +71,18 @@ class Reader:
         self.take()
 
     def script(self):
-        self.statements()
+        while self.begins_statement():
+            self.statement()
+            self.ends.append(end_of(self.tokens[self.at - 1]))
         if self.token().kind != "end":
             self.refuse("unexpected", "statement")
 
     def statements(self):
-        while self.is_next(*STATEMENTS) or self.is_upper():
+        while self.begins_statement():
             self.statement()
+
+    def begins_statement(self):
+        return self.is_next(*STATEMENTS) or self.is_upper()
 
     def is_upper(self):
         return self.token().kind == "word" and self.token().text[0].isupper()
@@ -198,8 +205,10 @@ class Reader:
             self.expression()
 
 
-def first_fault(data):
-    """The first SyntaxFault of a script's bytes, or None where its text is a script's."""
+def statements(data):
+    """The offsets behind the whole statements with which a script's bytes begin, and the first SyntaxFault, or None where
+    the text is a script's.
+    """
     reader = Reader(data)
     try:
         reader.script()
@@ -207,5 +216,15 @@ def first_fault(data):
         kind, wanted = stop.args
         token = reader.token()
         before = reader.tokens[reader.at - 1] if reader.at else None
-        return SyntaxFault(kind, token, before, wanted, list(reader.opened), *place(data, token.at))
-    return None
+        return reader.ends, SyntaxFault(kind, token, before, wanted, list(reader.opened), *place(data, token.at))
+    return reader.ends, None
+
+
+def first_fault(data):
+    """The first SyntaxFault of a script's bytes, or None where its text is a script's."""
+    return statements(data)[1]
+
+
+def fault_line(fault):
+    """The line that the program writes of a SyntaxFault."""
+    return "fault: line %d column %d: %s" % (fault.line, fault.column, fault.kind)

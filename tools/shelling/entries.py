@@ -1,0 +1,26 @@
+"""What is entered, cut into statements."""
+
+from collections import namedtuple
+
+from explaining.grammar import statements
+from explaining.tokens import tokens
+
+# the texts of the statements that are whole, the text of one that may go on, and the SyntaxFault behind them, or None
+Entry = namedtuple("Entry", "whole rest fault")
+
+
+def cut(text):
+    """The Entry of a text's bytes. Comments between statements belong to none of them. Where there is a fault the rest
+    begins with the statement that has it.
+    """
+    ends, fault = statements(text)
+    begins = [0] + ends
+    whole = [stripped(text[begin:end]) for begin, end in zip(begins, ends)]
+    rest = stripped(text[begins[-1] :])
+    is_open = fault is not None and fault.token.kind == "end"
+    return Entry(whole, rest, None if is_open else fault)
+
+
+def stripped(text):
+    """A text from its first token on, without white space at its end."""
+    return text[tokens(text)[0].at :].rstrip()
