@@ -104,9 +104,17 @@ class Terminal:
         self.shown = b""
         os.write(self.channel, text.encode())
 
-    def shows(self, text):
+    def interrupt(self, text):
+        """Types Ctrl-C until this is shown: the interpreter loses one that comes just before it waits for a key."""
+        for _ in range(PATIENCE):
+            self.send("\x03")
+            if self.shows(text, 1):
+                return True
+        return False
+
+    def shows(self, text, patience=PATIENCE):
         """Whether this is shown before long."""
-        until = time.monotonic() + PATIENCE
+        until = time.monotonic() + patience
         while text.encode() not in self.shown and time.monotonic() < until:
             if select.select([self.channel], [], [], 1)[0] and not self.read():
                 break
@@ -153,9 +161,10 @@ def check_terminal(report, program):
     terminal = Terminal(program)
     report.check("the shell at a terminal: a prompt", terminal.shows("lw> "), repr(terminal.shown))
     for typed, shown in TYPED:
-        if typed:
+        if typed not in ("", "\x03"):
             terminal.send(typed)
-        report.check("the shell at a terminal: %r after %r" % (shown, typed), terminal.shows(shown), repr(terminal.shown))
+        seen = terminal.interrupt(shown) if typed == "\x03" else terminal.shows(shown)
+        report.check("the shell at a terminal: %r after %r" % (shown, typed), seen, repr(terminal.shown))
     if importlib.util.find_spec("readline"):
         terminal.send('rint\t"c";\x01p\n')
         report.check("the shell at a terminal: a line is edited", terminal.shows("\nc\r\n"), repr(terminal.shown))

@@ -2,7 +2,7 @@
 
 from collections import namedtuple
 
-from explaining.grammar import statements
+from explaining.grammar import read
 from explaining.tokens import tokens
 
 # the texts of the statements that are whole, the text of one that may go on, and the SyntaxFault behind them, or None
@@ -13,10 +13,9 @@ def cut(text):
     """The Entry of a text's bytes. Comments between statements belong to none of them. Where there is a fault the rest
     begins with the statement that has it.
     """
-    ends, fault = statements(text)
-    begins = [0] + ends
-    whole = [stripped(text[begin:end]) for begin, end in zip(begins, ends)]
-    rest = stripped(text[begins[-1] :])
+    found, fault = read(text)
+    whole = [text[statement.token.at : statement.end] for statement in found]
+    rest = stripped(text[found[-1].end :] if found else text)
     is_open = fault is not None and fault.token.kind == "end"
     return Entry(whole, rest, None if is_open else fault)
 
