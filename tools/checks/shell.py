@@ -151,6 +151,7 @@ TYPED = [
     ("\x03", "shell: stopped; the statement is left out"),
     ("", "lw> "),
     ('print "b";\n', "\nb\r\n"),
+    ("", "lw> "),
     ("print K;\n", "did you mean `k`?"),
     ("", "lw> "),
     (":show\n", '    1 | print "a";\r\n    2 | print "b";\r\nlw> '),
@@ -167,7 +168,7 @@ def check_terminal(report, program):
         report.check("the shell at a terminal: %r after %r" % (shown, typed), seen, repr(terminal.shown))
     if importlib.util.find_spec("readline"):
         terminal.send('rint\t"c";\x01p\n')
-        report.check("the shell at a terminal: a line is edited", terminal.shows("\nc\r\n"), repr(terminal.shown))
+        report.check("the shell at a terminal: a line is edited", terminal.shows("\nc\r\nlw> "), repr(terminal.shown))
     terminal.send("\x04")
     report.compare("the shell at a terminal: its end", 0, terminal.status())
     os.close(terminal.channel)
