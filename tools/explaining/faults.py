@@ -2,26 +2,11 @@
 
 import re
 
+from explaining import runs
 from explaining.grammar import first_fault
 from explaining.guesses import guess
 from explaining.tokens import FUNCTIONS, UNUSED, place
 
-# what a fault line of a run says, by its words, and what is told of it
-RUNS = (
-    (r"file limit", "a script has at most 1,048,576 bytes: split it"),
-    (r"line (\d+): text limit", "the line to print would be longer than 1,048,576 bytes: print less, or ask `provable` instead"),
-    (r"line (\d+): too large (\d+)", "the formula has {1} distinct subformulas, and 128 at most are decided: `simplify` may help"),
-    (r"line (\d+): no interpolants (\w+)", "`interpolate` takes k, kt, s4 and gl, and not {1}"),
-    (r"line (\d+): not modalised", "each occurrence of the variable has to be under `box` or `dia`: one isn't"),
-    (r"line (\d+): too many boxes (\d+)", "there are {1} outermost modal subformulas with the variable, and 10 at most are taken"),
-    (r"line (\d+): not intuitionistic (\S+)", "an intuitionistic formula has no `{1}`"),
-    (r"line (\d+): not letterless (\S+)", "the function takes formulas without variables, and this one has `{1}`"),
-    (r"line (\d+): unbound (K|KT|S4|S5|GL|Grz|GRZ)", "logics are written small: did you mean `{1:lower}`?"),
-    (r"line (\d+): unbound (\S+)", "`{1}` was given no value; the variables of formulas begin with a lower-case letter"),
-    (r"line (\d+): kind", "a value is of another kind than what takes it: `and`, `or` and `not` take answers, `&`, `v` and `~` formulas"),
-    (r"line (\d+): range", "a number is below 0 or above the limit, an item isn't there, or a list is too heavy"),
-    (r"line (\d+): step limit", "a run has at most 1,000,000 steps: a loop may be without an end"),
-)
 NAMES = {"name": "a name has at most 64 bytes", "number": "a number is at most 18,446,744,073,709,551,615"}
 NESTED = "more than 400 constructs are unfinished here: name a part by `A := ..;`"
 
@@ -78,14 +63,13 @@ def told_of_syntax(data, fault):
 
 
 def told_of_run(data, fault_line):
-    for pattern, said in RUNS:
-        match = re.fullmatch("fault: " + pattern, fault_line)
-        if match:
-            words = [match.group(number) for number in range(1, len(match.groups()) + 1)]
-            for number, word in enumerate(words):
-                said = said.replace("{%d}" % number, word).replace("{%d:lower}" % number, word.lower())
-            return [said] + (pointed(data, int(words[0])) if words else [])
-    return []
+    told = runs.told(data, fault_line)
+    if told is None:
+        return []
+    said, line, at = told
+    if at is not None:
+        return [said] + pointed(data, *place(data, at))
+    return [said] + (pointed(data, line) if line else [])
 
 
 def explain(data, fault_line=None):
