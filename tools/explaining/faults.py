@@ -1,29 +1,54 @@
 """What is told of a fault of a script: the source line, a caret, and what was probably meant."""
 
 import re
+import unicodedata
 
 from explaining import runs
 from explaining.grammar import first_fault
 from explaining.guesses import guess
-from explaining.tokens import FUNCTIONS, UNUSED, place
+from explaining.logics import HAS_INTERPOLANTS, listed
+from explaining.tokens import FUNCTIONS, LOGICS, RESERVED, UNUSED, place
 
 NAMES = {"name": "a name has at most 64 bytes", "number": "a number is at most 18,446,744,073,709,551,615"}
+WANTED = {"operand": "a value", "statement": "a statement", "script variable": "a script variable"}
 NESTED = "more than 400 constructs are unfinished here: name a part by `A := ..;`"
 
 
 def pointed(data, line, column=None):
     """The source line with its number, and a caret under a column, which counts bytes."""
     source = (data.split(b"\n") + [b""] * 2)[line - 1].rstrip(b"\r")
-    shown = source.decode("utf-8", "replace").replace("\t", " ")
     head = "%5d | " % line
     if column is None:
-        return [head + shown]
-    letters = len(source[: column - 1].decode("utf-8", "replace"))
-    return [head + shown, " " * (len(head) + letters) + "^"]
+        return [head + shown(source)]
+    return [head + shown(source), " " * (len(head) + width(shown(source[: column - 1]))) + "^"]
+
+
+def shown(source):
+    """A line as a terminal can show it, letter by letter."""
+    letters = source.decode("utf-8", "replace").replace("\t", " ")
+    return "".join(letter if letter.isprintable() or is_mark(letter) else "\ufffd" for letter in letters)
+
+
+def is_mark(letter):
+    """Whether it takes no place of its own, as accents that stand behind their letter."""
+    return unicodedata.combining(letter) != 0
+
+
+def width(letters):
+    """How many places letters take on a terminal."""
+    return sum(0 if is_mark(letter) else 1 + (unicodedata.east_asian_width(letter) in "WF") for letter in letters)
+
+
+def named(data, token):
+    """A token as it is told of; one of a byte that begins none is the letter in which that stands."""
+    if token.kind != "bad":
+        return "`%s`" % token.text
+    letter = data[token.at : token.at + 4].decode("utf-8", "replace")[0]
+    return "`%s`" % letter if letter.isprintable() and letter != "\ufffd" else "the byte %d" % data[token.at]
 
 
 def other_words(data, fault):
-    """What is wrong where no mend is known, or None: arguments, reserved words, escapes."""
+    """What is wrong where no mend is known, or None: arguments, reserved words, escapes, numbers, functions."""
     opened = fault.opened[-1].at if fault.opened else 0
     word = re.search(rb"[a-z]+$", data[:opened].rstrip())
     function = word.group().decode() if word else ""
@@ -37,6 +62,10 @@ def other_words(data, fault):
         return "`%s` is a function and a reserved word: brackets follow it, and it can't be a name" % fault.before.text
     if fault.before and fault.before.kind == "text" and fault.before.text.endswith('\\"'):
         return "there are no escapes in a text: it ended at the `\"` before"
+    if fault.before and fault.before.kind == "number" and fault.token.text in ("/", "."):
+        return "numbers are whole, and there is no division"
+    if fault.before and fault.before.kind == "word" and fault.before.text not in RESERVED and fault.token.text == "(":
+        return "there is no function `%s`; the functions are %s" % (fault.before.text, listed(list(FUNCTIONS)))
     return None
 
 
@@ -53,12 +82,14 @@ def told_of_syntax(data, fault):
         said = NESTED
     elif fault.token.text in UNUSED:
         said = "`%s` is a reserved word that no script has yet" % fault.token.text
+        if fault.token.text in HAS_INTERPOLANTS:
+            said += "; the logics are %s" % listed(LOGICS)
     elif fault.token.kind == "end":
         said = "the text ends too early"
     else:
-        said = "`%s` can't stand here" % fault.token.text
-    if fault.wanted:
-        said += "; what can: %s" % ("`%s`" % fault.wanted if " " not in fault.wanted and not fault.wanted.isalpha() else fault.wanted)
+        said = "%s can't stand here" % named(data, fault.token)
+    if fault.wanted and fault.token.text not in UNUSED:
+        said += "; what can: %s" % WANTED.get(fault.wanted, "`%s`" % fault.wanted)
     return [said] + pointed(data, fault.line, fault.column)
 
 

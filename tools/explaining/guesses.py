@@ -4,10 +4,11 @@ A guess is told only where the mended text has its first fault further on, or no
 """
 
 import difflib
+import re
 from collections import namedtuple
 
 from explaining.grammar import first_fault
-from explaining.tokens import FUNCTIONS, RESERVED, STATEMENTS, UNUSED
+from explaining.tokens import FUNCTIONS, RESERVED, STATEMENTS, UNUSED, end_of
 
 # what is said, the offset of the caret, and the mend: data[start:end] becomes `spelling`
 Guess = namedtuple("Guess", "said at start end spelling")
@@ -19,7 +20,11 @@ SIGNS = (
     ("◇", "dia ", "`◇` is written `dia`"),
     ("<>", "dia ", "`<>` is written `dia`"),
     ("→", " -> ", "`→` is written `->`"),
+    ("⇒", " -> ", "`⇒` is written `->`"),
     ("↔", " <-> ", "`↔` is written `<->`"),
+    ("⇔", " <-> ", "`⇔` is written `<->`"),
+    ("≠", "!=", "`≠` is written `!=`"),
+    ("≤", "<=", "`≤` is written `<=`"),
     ("∧", " & ", "`∧` is written `&`"),
     ("∨", " v ", "`∨` is written `v`"),
     ("¬", "~", "`¬` is written `~`"),
@@ -35,6 +40,24 @@ SIGNS = (
     ("=", ":=", "a script variable is given a value by `:=`"),
     ("=", "==", "two values are compared by `==`"),
 )
+# signs that begin as ours do, so that the fault is inside them
+LONGER = (
+    ("&&", "&", "`&&` is written `&`"),
+    ("<=>", "<->", "`<=>` is written `<->`"),
+    ("==>", "->", "`==>` is written `->`"),
+    ("-->", "->", "`-->` is written `->`"),
+    ("<>", "!=", "that two values aren't equal is written `!=`"),
+)
+# other marks around a text
+QUOTES = [(opening.encode(), closing.encode()) for opening, closing in ("''", "“”", "„“", "‘’", "«»")]
+# the words that may stand where the grammar wants one of these
+WORDS = {
+    "statement": STATEMENTS,
+    "end": STATEMENTS + ("else", "end"),
+    "then": ("then",),
+    "do": ("do",),
+    "to": ("to",),
+}
 
 
 def sign_guesses(data, fault):
@@ -42,6 +65,10 @@ def sign_guesses(data, fault):
     for sign, spelling, said in SIGNS:
         if data.startswith(sign.encode(), at):
             yield Guess(said, at, at, at + len(sign.encode()), spelling)
+    for sign, spelling, said in LONGER:
+        for start in range(at - len(sign) + 1, at):
+            if start >= 0 and data.startswith(sign.encode(), start):
+                yield Guess(said, start, start, start + len(sign), spelling)
     before = fault.before
     if before and before.text == "]" and data[:at].rstrip().endswith(b"[]"):
         start = data.rindex(b"[]", 0, at)
@@ -49,19 +76,21 @@ def sign_guesses(data, fault):
 
 
 def greater_guesses(data, fault):
-    """`A > B` of two tokens: the sides are turned round."""
+    """`A > B` and `A >= B` of two tokens: the sides are turned round."""
     at, before = fault.token.at, fault.before
-    behind = data[at + 1 :].split(b";")[0].split(b",")[0]
-    if data[at : at + 1] == b">" and before and before.kind in ("number", "word") and behind.strip().isalnum():
-        mended = "%s < %s" % (behind.strip().decode(), before.text)
-        yield Guess("there is no `>`: turn the sides round, `%s`" % mended, at, before.at, at + 1 + len(behind), mended)
+    match = re.match(rb"(>=?)\s*(\w+)", data[at:])
+    if match and before and before.kind in ("number", "word"):
+        sign, right = match.group(1).decode(), match.group(2).decode()
+        text = "%s %s %s" % (right, sign.replace(">", "<"), before.text)
+        said = "there is no `%s`: turn the sides round, `%s`" % (sign, text)
+        yield Guess(said, at, before.at, at + match.end(), text)
 
 
 def missing_guesses(data, fault):
     """A word or a sign that is missing; it is told behind the token before."""
     if fault.before is None:
         return
-    end = fault.before.at + len(fault.before.text)
+    end = end_of(fault.before)
     if fault.wanted == ")" and fault.token.text == ",":
         return
     if fault.wanted in ("then", "do", "end", ")", "]"):
@@ -72,34 +101,52 @@ def missing_guesses(data, fault):
         yield Guess("`;` is missing here", end, end, end, ";")
 
 
-def name_guesses(_, fault):
+def near(word, words):
+    """The word that this one is probably a misspelling of, in a list of one or none."""
+    return difflib.get_close_matches(word.lower(), words, 1, 0.6)
+
+
+def name_guesses(data, fault):
     """Names that are misspelt, reserved, or in the wrong case."""
     token, before = fault.token, fault.before
     if token.text == "(" and before and before.kind == "word" and before.text not in RESERVED:
-        end = before.at + len(before.text)
-        for near in difflib.get_close_matches(before.text.lower(), FUNCTIONS, 1, 0.6):
-            yield Guess("there is no function `%s`: did you mean `%s`?" % (before.text, near), before.at, before.at, end, near)
-    end = token.at + len(token.text)
-    if token.kind != "word" or fault.wanted not in ("operand", "(", "statement", "script variable"):
-        return
-    upper = token.text[0].upper() + token.text[1:]
-    if token.text in UNUSED:
+        for word in near(before.text, FUNCTIONS):
+            said = "there is no function `%s`: did you mean `%s`?" % (before.text, word)
+            yield Guess(said, before.at, before.at, end_of(before), word)
+    if token.kind != "word" or token.text in UNUSED:
         return
     if token.text in RESERVED and fault.wanted == "operand":
-        yield Guess("`%s` is a reserved word and can't be a name" % token.text, token.at, token.at, end, token.text + "_")
-    if fault.wanted in ("statement", "script variable"):
+        said = "`%s` is a reserved word and can't be a name" % token.text
+        yield Guess(said, token.at, token.at, end_of(token), token.text + "_")
+    if fault.wanted == "script variable" or (fault.wanted == "statement" and given_value(data, token)):
+        upper = token.text[0].upper() + token.text[1:]
         said = "a script variable begins with an upper-case letter: `%s`" % upper
-        yield Guess(said, token.at, token.at, end, upper)
+        yield Guess(said, token.at, token.at, end_of(token), upper)
 
 
-def statement_guesses(data, fault):
+def given_value(data, token):
+    """Whether `:=` or `=` stands behind a token."""
+    return re.match(rb"\s*:?=", data[end_of(token) :]) is not None
+
+
+def word_guesses(_, fault):
+    """Words of statements that are misspelt."""
+    token = fault.token
+    if token.kind == "word" and token.text not in RESERVED:
+        for word in near(token.text, WORDS.get(fault.wanted, ())):
+            yield Guess("did you mean `%s`?" % word, token.at, token.at, end_of(token), word)
+
+
+def statement_guesses(_, fault):
     token, before = fault.token, fault.before
     if fault.wanted == "statement" and token.text == ";":
-        yield Guess("no `;` comes here: `end` ends its statement alone", token.at, token.at, token.at + 1, "")
-    if before and before.kind == "word" and before.text[0].isupper() and token.text == ";":
-        yield Guess("this is no statement: `print` writes a value", before.at, before.at, before.at, "print ")
+        said = "no `;` comes here: `end` ends its statement alone" if before and before.text == "end" else "this `;` ends no statement"
+        yield Guess(said, token.at, token.at, token.at + 1, "")
     if fault.wanted == "statement" and token.text == "end":
         yield Guess("this `end` closes nothing", token.at, token.at, token.at + 3, "")
+    begin = before if fault.wanted == ":=" and before.text[0].isupper() else token
+    if begin is before or (fault.wanted in ("statement", "end") and token.text != "end"):
+        yield Guess("this is no statement: `print` writes a value", begin.at, begin.at, begin.at, "print ")
 
 
 def text_guesses(data, fault):
@@ -117,13 +164,14 @@ def text_guesses(data, fault):
     if fault.token.text == '"':
         end = at + len(line.rstrip().rstrip(b";"))
         yield Guess("a text is closed by `\"` in its line", at, end, end, '"')
-    if fault.token.text == "'" and b"'" in line[1:]:
-        end = line.index(b"'", 1)
-        inside = line[1:end].decode("latin-1")
-        yield Guess("a text stands between `\"` and `\"`", at, at, at + end + 1, '"%s"' % inside)
+    for opening, closing in QUOTES:
+        if line.startswith(opening) and closing in line[len(opening) :]:
+            end = line.index(closing, len(opening))
+            inside = line[len(opening) : end].decode("latin-1")
+            yield Guess("a text stands between `\"` and `\"`", at, at, at + end + len(closing), '"%s"' % inside)
 
 
-MAKERS = (sign_guesses, greater_guesses, text_guesses, name_guesses, statement_guesses, missing_guesses)
+MAKERS = (sign_guesses, greater_guesses, text_guesses, name_guesses, word_guesses, statement_guesses, missing_guesses)
 
 
 def mended(data, guess_made):

@@ -86,7 +86,8 @@ def of_unbound(line, name):
     names = {statement.target.text: statement.token for statement in reversed(list(all_of(line.statements))) if statement.target}
     said = "`%s` was given no value" % name
     if name in names:
-        return said + " before: line %d comes later" % place(line.data, names[name].at)[0], at
+        which = "comes later" if names[name].at >= line.begin else "wasn't carried out"
+        return said + ": what gives it one, in line %d, %s" % (place(line.data, names[name].at)[0], which), at
     for near in difflib.get_close_matches(name, names, 1, 0.7):
         return said + ": did you mean `%s`?" % near, at
     small = name[0].lower() + name[1:]
