@@ -5,51 +5,13 @@ import os
 import subprocess
 import tempfile
 
+from checks import slips
 from checks.report import TOP, text_of
-from explaining import faults, papers
-from explaining.grammar import fault_line, first_fault
+from explaining import faults, misfits, papers
+from explaining.grammar import fault_line, first_fault, read
 from explaining.guesses import guess, mended
+from explaining.misfits import bare
 
-# a script with one mistake, what the first line begins with, and the text as it was meant
-MENDED = [
-    ("print p\nprint q;", "`;` is missing", "print p;\nprint q;"),
-    ("if yes print 1; end", "`then` is missing", None),
-    ("while no print 1; end", "`do` is missing", None),
-    ("if yes then print 1;", "`end` is missing", None),
-    ("print (p & q;", "`)` is missing", "print (p & q);"),
-    ("print [p, q;", "`]` is missing", "print [p, q];"),
-    ("print provble(k, p);", "there is no function `provble`: did you mean `provable`?", "print provable(k, p);"),
-    ("print p & end;", "`end` is a reserved word", None),
-    ("v := p;", "a script variable begins with an upper-case letter", "V := p;"),
-    ("print []p;", "`[]` is written `box`", "print box p;"),
-    ("print <>p;", "`<>` is written `dia`", "print dia p;"),
-    ("print □p;", "`□` is written `box`", "print box p;"),
-    ("print ◇p;", "`◇` is written `dia`", "print dia p;"),
-    ("print p /\\ q;", "`/\\` is written `&`", "print p & q;"),
-    ("print p \\/ q;", "`\\/` is written `v`", None),
-    ("print p | q;", "`|` is written `v`", None),
-    ("print !p;", "`!` is written `~`", "print ~p;"),
-    ("print p => q;", "`=>` is written `->`", "print p -> q;"),
-    ("print ⊤;", "`⊤` is written `true`", "print true;"),
-    ("print ⊥;", "`⊥` is written `false`", "print false;"),
-    ("A = p;", "a script variable is given a value by `:=`", "A := p;"),
-    ("print 1 > 0;", "there is no `>`", None),
-    ("// words\nprint p;", "a comment begins with `#`", None),
-    ("\ufeffprint p;", "a byte order mark", "print p;"),
-    ("print 'a';", "a text stands between", 'print "a";'),
-    ("if yes then print 1; end;", "no `;` comes here", "if yes then print 1; end"),
-]
-# a script, the fault line of a run, and what the first line begins with
-TOLD = [
-    ("print K;", "fault: line 1: unbound K", "logics are written small: did you mean `k`?"),
-    ("print p and q;", "fault: line 1: kind", "a value is of another kind"),
-    ("print 1;", "fault: line 1: too large 129", "the formula has 129 distinct subformulas"),
-    ("print 1;", "fault: line 1: no interpolants s5", "`interpolate` takes k, kt, s4 and gl"),
-    ("print 1;", "fault: line 1: step limit", "a run has at most 1,000,000 steps"),
-    ("print vars(p, q);", None, "an argument too many: `vars` takes 1"),
-    ("print provable(k);", None, "an argument too few: `provable` takes 2"),
-    ("print count -> p;", None, "`count` is a function"),
-]
 PROGRAM = os.path.join(TOP, "crates", "lw", "out", "lw")
 GOOD = "certificate 1\nlogic k\nformula p -> q\nmodel\nworlds 1\nrefuted 0\nworld 0 sees true p\nend\n"
 # what becomes what in the certificate above, and what the first line begins with
@@ -65,7 +27,7 @@ PAPERS = [
 
 
 def check_mends(report):
-    for text, said, meant in MENDED:
+    for text, said, meant in slips.MENDED:
         data = text.encode()
         fault = first_fault(data)
         made = guess(data, fault)
@@ -74,6 +36,10 @@ def check_mends(report):
             report.compare("the mend of %r" % text, meant.split(), mended(data, made).decode().split())
         if made:
             report.compare("the grammar on the mend of %r" % text, None, first_fault(mended(data, made)))
+
+
+def kind_guess(data):
+    return misfits.guess(data, misfits.sites_at(data, 0, len(data)), 0, len(data))
 
 
 def fault_by_program(data):
@@ -90,21 +56,64 @@ def check_by_program(report):
     if not os.access(PROGRAM, os.X_OK):
         print("tools: the mends aren't given to the program, since it isn't built")
         return
-    for text, _, _ in MENDED:
+    for text, _, _ in slips.MENDED:
         data = text.encode()
         last = fault_by_program(mended(data, guess(data, first_fault(data))))
         report.check("the program on the mend of %r" % text, " column " not in last, last)
 
 
+def at_caret(lines):
+    """What stands at the caret and behind it in the source line that is told, or None where there is no caret."""
+    if len(lines) < 3:
+        return None
+    places = 0
+    for number, letter in enumerate(lines[1]):
+        if places == len(lines[2]) - 1:
+            return lines[1][number:]
+        places += faults.width(letter)
+    return ""
+
+
+def check_lines(report, text, lines, said, caret):
+    """Whether the lines begin so, and the caret stands there; where `said` is None nothing is to be told."""
+    what = "what is told of %r" % text
+    if said is None:
+        report.compare(what, [], lines)
+        return
+    report.check(what, bool(lines) and lines[0].startswith(said), str(lines))
+    found = at_caret(lines)
+    report.check("the caret in %r" % text, found == caret or bool(found and caret and found.startswith(caret)), str(lines))
+
+
 def check_told(report):
-    for text, line, said in TOLD:
-        lines = faults.explain(text.encode(), line)
-        report.check("what is told of %r" % text, bool(lines) and lines[0].startswith(said), str(lines))
+    for text, said, caret in slips.TEXTS:
+        check_lines(report, text, faults.explain(text.encode()), said, caret)
+    for text, line, said, caret in slips.TOLD:
+        check_lines(report, text, faults.explain(text.encode(), line), said, caret)
+    for text in slips.RIGHT:
+        report.compare("what is told of %r" % text, [], faults.explain(text.encode()))
 
 
-def check_caret(report):
-    lines = faults.explain('print "Gödel";'.encode())
-    report.compare("the letter over the caret", "ö", lines[1][len(lines[2]) - 1])
+def shape(node):
+    """An expression without its brackets and places."""
+    node = bare(node)
+    return node.shape, node.token.text, [shape(part) for part in node.parts]
+
+
+def shapes(data):
+    statements, fault = read(data)
+    return fault, [[shape(head) for head in statement.heads] for statement in statements]
+
+
+def check_kinds(report):
+    """Whether a guess at a value of another kind names it, and its mend says what was meant, brackets aside."""
+    for text, said, caret, meant in slips.KINDS:
+        data = text.encode()
+        check_lines(report, text, faults.explain(data, "fault: line 1: kind"), said, caret)
+        made = kind_guess(data)
+        report.check("a guess at %r" % text, made is not None and made.said.startswith(said), str(made))
+        if made and meant:
+            report.compare("the mend of %r" % text, shapes(meant.encode()), shapes(mended(data, made)))
 
 
 def check_papers(report):
@@ -128,6 +137,6 @@ def check_all(report):
     check_mends(report)
     check_by_program(report)
     check_told(report)
-    check_caret(report)
+    check_kinds(report)
     check_papers(report)
     check_examples(report)

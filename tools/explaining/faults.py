@@ -47,35 +47,44 @@ def named(data, token):
     return "`%s`" % letter if letter.isprintable() and letter != "\ufffd" else "the byte %d" % data[token.at]
 
 
-def other_words(data, fault):
-    """What is wrong where no mend is known, or None: arguments, reserved words, escapes, numbers, functions."""
+def of_arguments(data, fault):
+    """What is wrong with the number of arguments, and where; or None."""
     opened = fault.opened[-1].at if fault.opened else 0
     word = re.search(rb"[a-z]+$", data[:opened].rstrip())
     function = word.group().decode() if word else ""
-    if function in FUNCTIONS and data[opened : opened + 1] == b"(":
-        count = FUNCTIONS[function]
-        if fault.wanted == ")" and fault.token.text == ",":
-            return "an argument too many: `%s` takes %d" % (function, count)
-        if fault.token.text == ")" and (fault.wanted == "," or fault.before.at == opened):
-            return "an argument too few: `%s` takes %d" % (function, count)
-    if fault.wanted == "(" and fault.before.text in FUNCTIONS:
-        return "`%s` is a function and a reserved word: brackets follow it, and it can't be a name" % fault.before.text
-    if fault.before and fault.before.kind == "text" and fault.before.text.endswith('\\"'):
-        return "there are no escapes in a text: it ended at the `\"` before"
-    if fault.before and fault.before.kind == "number" and fault.token.text in ("/", "."):
-        return "numbers are whole, and there is no division"
-    if fault.before and fault.before.kind == "word" and fault.before.text not in RESERVED and fault.token.text == "(":
-        return "there is no function `%s`; the functions are %s" % (fault.before.text, listed(list(FUNCTIONS)))
+    if function not in FUNCTIONS or data[opened : opened + 1] != b"(":
+        return None
+    if fault.wanted == ")" and fault.token.text == ",":
+        return "an argument too many: `%s` takes %d" % (function, FUNCTIONS[function]), fault.token.at
+    if fault.token.text == ")" and (fault.wanted == "," or fault.before.at == opened):
+        return "an argument too few: `%s` takes %d" % (function, FUNCTIONS[function]), fault.token.at
     return None
 
 
+def of_token(fault):
+    """What is wrong with a token behind the one before, and where; or None."""
+    token, before = fault.token, fault.before
+    if fault.wanted == "(" and before.text in FUNCTIONS:
+        return "`%s` is a function and a reserved word: brackets follow it, and it can't be a name" % before.text, token.at
+    if before and before.kind == "text" and before.text.endswith('\\"'):
+        return "there are no escapes in a text: it ended at the `\"` before", token.at
+    if before and before.kind == "number" and token.text in ("/", "."):
+        return "numbers are whole, and there is no division", token.at
+    if before and before.kind == "word" and before.text not in RESERVED and token.text == "(":
+        return "there is no function `%s`; the functions are %s" % (before.text, listed(list(FUNCTIONS))), before.at
+    return None
+
+
+def of_mend(data, fault):
+    """What a guess says, and where; or None."""
+    made = guess(data, fault)
+    return (made.said, made.at) if made else None
+
+
 def told_of_syntax(data, fault):
-    made = guess(data, fault) if fault.kind == "unexpected" else None
-    if made:
-        return [made.said] + pointed(data, *place(data, made.at))
-    other = other_words(data, fault) if fault.kind == "unexpected" else None
-    if other:
-        return [other] + pointed(data, fault.line, fault.column)
+    told = fault.kind == "unexpected" and (of_mend(data, fault) or of_arguments(data, fault) or of_token(fault))
+    if told:
+        return [told[0]] + pointed(data, *place(data, told[1]))
     if fault.kind in NAMES:
         said = NAMES[fault.kind]
     elif fault.kind == "nested":

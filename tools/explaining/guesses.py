@@ -97,8 +97,8 @@ def missing_guesses(data, fault):
         opened = " for the `%s` that isn't closed" % fault.opened[-1].text if fault.opened else ""
         spelling = fault.wanted if fault.wanted in ")]" else " %s " % fault.wanted
         yield Guess("`%s` is missing here%s" % (fault.wanted, opened), end, end, end, spelling)
-    if fault.wanted == ";":
-        yield Guess("`;` is missing here", end, end, end, ";")
+    if fault.wanted in (";", ","):
+        yield Guess("`%s` is missing here" % fault.wanted, end, end, end, fault.wanted)
 
 
 def near(word, words):
@@ -115,6 +115,8 @@ def name_guesses(data, fault):
             yield Guess(said, before.at, before.at, end_of(before), word)
     if token.kind != "word" or token.text in UNUSED:
         return
+    if token.text == "not" and fault.wanted == "operand":
+        yield Guess("before a formula `not` is written `~`", token.at, token.at, end_of(token), "~")
     if token.text in RESERVED and fault.wanted == "operand":
         said = "`%s` is a reserved word and can't be a name" % token.text
         yield Guess(said, token.at, token.at, end_of(token), token.text + "_")

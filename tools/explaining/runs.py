@@ -3,11 +3,11 @@
 import difflib
 import re
 
-from explaining import slips
+from explaining import misfits
 from explaining.grammar import read
 from explaining.kinds import all_of, inside
 from explaining.logics import listed, told_of_word, with_interpolants
-from explaining.slips import bare, statements_at
+from explaining.misfits import bare, statements_at
 from explaining.tokens import LOGICS, place
 
 CONNECTIVES = ("~", "&", "v", "->", "<->")
@@ -67,7 +67,7 @@ def word_in(calls, number, word):
 
 def of_kind(line):
     said = "a value is of another kind than what takes it: `and`, `or` and `not` take answers, `&`, `v` and `~` formulas"
-    return slips.explained(line.data, line.begin, line.end) or (said, None)
+    return misfits.explained(line.data, line.begin, line.end) or (said, None)
 
 
 def of_range(line):

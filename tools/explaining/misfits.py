@@ -138,6 +138,19 @@ def told_of(site):
     return "%s takes %s here, and this is %s" % (taker, named(site.wanted), named(site.kinds))
 
 
+def guess(data, sites, begin, end):
+    """The first Guess at the first of the Sites in the statements that begin between two offsets whose mend helps; or
+    None.
+    """
+    for make in MAKERS:
+        for made in make(data, sites[0]):
+            other = mended(data, made)
+            left = sites_at(other, begin, end + (len(other) - len(data) if made.start < end else 0))
+            if left is not None and len(left) < len(sites):
+                return made
+    return None
+
+
 def explained(data, begin, end):
     """What is wrong with the kind of a value in the statements that begin between two offsets, with the offset of the
     caret; None where the text doesn't show which value it is.
@@ -145,11 +158,5 @@ def explained(data, begin, end):
     sites = sites_at(data, begin, end)
     if not sites or not (is_wrong(sites[0]) or len(sites) == 1):
         return None
-    site = sites[0]
-    for make in MAKERS:
-        for made in make(data, site):
-            other = mended(data, made)
-            left = sites_at(other, begin, end + (len(other) - len(data) if made.start < end else 0))
-            if left is not None and len(left) < len(sites):
-                return made.said, made.at
-    return told_of(site), site.operand.begin
+    made = guess(data, sites, begin, end)
+    return (made.said, made.at) if made else (told_of(sites[0]), sites[0].operand.begin)
