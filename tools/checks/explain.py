@@ -14,16 +14,51 @@ from explaining.misfits import bare
 
 PROGRAM = os.path.join(TOP, "crates", "lw", "out", "lw")
 GOOD = "certificate 1\nlogic k\nformula p -> q\nmodel\nworlds 1\nrefuted 0\nworld 0 sees true p\nend\n"
-# what becomes what in the certificate above, and what the first line begins with
+PROOF = "certificate 1\nlogic k\nformula p -> p\nproof\none F p -> p\nclose T p\nend\n"
+# a certificate, what becomes what in it, what the first line begins with, and which line that speaks of
 PAPERS = [
-    ("\n", "\r\n", "the line ends with a carriage return"),
-    ("p -> q", "(p -> q)", "the formula is to be spelled with the fewest brackets and spaces: `formula p -> q`"),
-    ("logic k", "logic K", "this line is `logic` and one of the words k, kt"),
-    ("worlds 1", "worlds 01", "a number has no leading zero"),
-    ("end\n", "end\nend\n", "nothing stands behind `end`"),
-    ("end\n", "", "a line is missing here"),
-    ("certificate 1", "certificate 2", "version 2 isn't read"),
+    (GOOD, "\n", "\r\n", "the line ends with a carriage return", 1),
+    (GOOD, "p -> q", "(p -> q)", "the formula is to be spelled with the fewest brackets and spaces: `formula p -> q`", 3),
+    (PROOF, "F p -> p", "F p->p", "the formula is to be spelled with the fewest brackets and spaces: `one F p -> p`", 5),
+    (GOOD, "logic k", "logic K", "this line is `logic` and one of the words k, kt, s4, s5, gl and grz, in small letters: `logic k`", 2),
+    (GOOD, "logic k", "logic s6", "this line is `logic` and one of the words k, kt, s4, s5, gl and grz", 2),
+    (GOOD, "worlds 1", "worlds 01", "a number has no leading zero", 5),
+    (GOOD, "refuted 0", "refuted 00", "a number has no leading zero", 6),
+    (GOOD, "worlds 1", "worlds 0", "the number of worlds is at least 1", 5),
+    (GOOD, "refuted 0", "refuted 1", "worlds are numbered from 0, so this number is below", 6),
+    (GOOD, "sees true", "sees 1 true", "worlds are numbered from 0, so those that are seen", 7),
+    (GOOD, "true p", "true q p", "the worlds, and the variables, stand in order and each once: `world 0 sees true p q`", 7),
+    (GOOD, "sees true", "sees  true", "single spaces part the words", 7),
+    (GOOD, "model\n", "model \n", "single spaces part the words", 4),
+    (GOOD, "model\n", "\nmodel\n", "a certificate has no empty lines", 4),
+    (GOOD, "model\n", "# words\nmodel\n", "a certificate has no comments", 4),
+    (GOOD, "end\n", "end\nend\n", "nothing stands behind `end`", 9),
+    (GOOD, "end\n", "end\n\n", "nothing stands behind `end`", 9),
+    (GOOD, "end\n", "end", "the last line has no line feed at its end", 8),
+    (GOOD, "end\n", "", "`end` is missing here", 8),
+    (GOOD, "worlds 1\n", "", "the line with the number of worlds, as `worlds 1`, is missing here", 5),
+    (GOOD, "refuted 0\n", "", "the line with the world at which the formula is false, as `refuted 0`, is missing here", 6),
+    (GOOD, "world 0 sees true p\n", "", "the line of world 0 is missing here", 7),
+    (GOOD, "logic k\n", "", "the line with the logic, as `logic k`, is missing here", 2),
+    (GOOD, "formula p -> q\n", "", "the line with the formula, as `formula p`, is missing here", 3),
+    (GOOD, "model\n", "", "`proof` or `model` is missing here", 4),
+    (GOOD, "formula p -> q\n", "formula p -> q\nformula p\n", "this line is one too many", 4),
+    (GOOD, "true p\n", "true p\nworld 1 sees true\n", "this line is one too many", 8),
+    (GOOD, "model\n", "modle\n", "did you mean `model`?", 4),
+    (PROOF, "close T p\n", "", "a step of the proof is missing here", 6),
+    (PROOF, "close T p\n", "close T p\nclose T p\n", "this line is one too many", 7),
+    (PROOF, "close T p\n", "close T p\nclose T p\nclose T p\n", "`end` is to stand here", 7),
+    (PROOF, "close T p", "closes T p", "did you mean `close`?", 6),
+    (PROOF, "close T p", "close t p", "a sign is `T` or `F`", 6),
+    (PROOF, "close T p", "close T p q", "what stands behind `close T` is no formula's text", 6),
+    (PROOF, "close T p", "refl T p\n" * 4096 + "close T p", "a proof is at most 4,096 steps deep", 4101),
+    (GOOD, "certificate 1", "certificate 2", "version 2 isn't read", 1),
+    (GOOD, "certificate 1\n", "", "the first line is `certificate 1`", 1),
+    (GOOD, "p -> q", "p => q", "what stands behind `formula` is no formula's text", 3),
+    (GOOD, GOOD, "", "the line `certificate 1` is missing here", 1),
 ]
+# version 2, with the node `box 0` in two lines
+TWICE = "certificate 2\nlogic k\nformulas 4\n0 var p\n1 box 0\n2 box 0\n3 -> 1 2\ngoal 3\nproof\none F 3\nclose T 1\nend\n"
 
 
 def check_mends(report):
@@ -117,10 +152,14 @@ def check_kinds(report):
 
 
 def check_papers(report):
-    report.compare("a certificate's text", [], papers.explain(GOOD.encode()))
-    for old, new, said in PAPERS:
-        lines = papers.explain(GOOD.replace(old, new).encode())
-        report.check("a certificate with %r" % new, bool(lines) and lines[0].startswith(said), str(lines))
+    for text in (GOOD, PROOF):
+        report.compare("a certificate's text", [], papers.explain(text.encode()))
+    for text, old, new, said, line in PAPERS:
+        lines = papers.explain(text.replace(old, new).encode())
+        report.check("a certificate with %r" % new[:40], bool(lines) and lines[0].startswith(said), str(lines))
+        report.check("the line of %r" % new[:40], bool(lines) and lines[1].startswith("%5d |" % line), str(lines))
+    lines = papers.explain(TWICE.encode())
+    report.compare("a node of version 2 in two lines", ["in version 2 too a node stands once, and this one stands in line 5", "    6 | 2 box 0"], lines[2:])
 
 
 def check_examples(report):

@@ -7,7 +7,7 @@ import re
 from collections import namedtuple
 
 from certificates.formulas import NoFormula, printed, spelled
-from certificates.texts import ARITY, LOGICS, Fault, read
+from certificates.texts import ARITY, DEPTH_LIMIT, LOGICS, Fault, read
 from explaining.faults import pointed
 from explaining.guesses import near
 from explaining.logics import listed
@@ -47,14 +47,15 @@ def blank_mends(lines, line):
 def formula_mends(lines, line):
     """A formula that is spelled in another way."""
     match = re.fullmatch(rb"(formula |[a-z]+ [TF] )(.*)", lines[line - 1], re.DOTALL)
-    try:
-        text = match and printed(spelled(match.group(2)))
-    except NoFormula:
+    if not match:
         return
-    if text:
-        meant = match.group(1) + text.encode()
+    try:
+        meant = match.group(1) + printed(spelled(match.group(2))).encode()
         said = "the formula is to be spelled with the fewest brackets and spaces: `%s`" % meant.decode()
-        yield replaced(said, lines, line, meant)
+    except NoFormula:
+        meant = match.group(1) + b"p"
+        said = "what stands behind `%s` is no formula's text" % match.group(1).decode().rstrip()
+    yield replaced(said, lines, line, meant)
 
 
 def word_mends(lines, line):
@@ -64,6 +65,8 @@ def word_mends(lines, line):
     if word == "logic" and more.lower() in LOGICS:
         said = "this line is `logic` and one of the words %s, in small letters: `logic %s`" % (listed(LOGICS), more.lower())
         yield replaced(said, lines, line, source.lower().encode("latin-1"))
+    if word == "logic":
+        yield replaced("this line is `logic` and one of the words %s" % listed(LOGICS), lines, line, b"logic k")
     match = re.fullmatch(r"([a-z]+) ([tf]) (.*)", source)
     if match:
         meant = "%s %s %s" % (match.group(1), match.group(2).upper(), match.group(3))
@@ -82,6 +85,20 @@ def order_mends(lines, line):
         meant = b" ".join([match.group(1)] + worlds + [b"true"] + names)
         said = "the worlds, and the variables, stand in order and each once: `%s`" % meant.decode()
         yield replaced(said, lines, line, meant)
+
+
+def number_mends(lines, line):
+    """Numbers that are too great, or that of no world."""
+    source = lines[line - 1]
+    if source.startswith(b"worlds "):
+        said = "the number of worlds is at least 1, and below 18,446,744,073,709,551,616"
+        yield replaced(said, lines, line, b"worlds 1")
+    if source.startswith(b"refuted "):
+        yield replaced("worlds are numbered from 0, so this number is below that of the worlds", lines, line, b"refuted 0")
+    match = re.fullmatch(rb"(world \d+ sees)(?: \d+)*( true.*)", source)
+    if match:
+        said = "worlds are numbered from 0, so those that are seen have numbers below that of the worlds"
+        yield replaced(said, lines, line, match.group(1) + match.group(2))
 
 
 def samples(lines, line):
@@ -120,7 +137,17 @@ def other_mends(lines, line):
         yield Mend("%s is to stand here" % named, lines[: line - 1] + [sample] + lines[line - 1 :], line)
 
 
-MAKERS = (line_end_mends, blank_mends, formula_mends, word_mends, order_mends, missing_mends, surplus_mends, other_mends)
+MAKERS = (
+    line_end_mends,
+    blank_mends,
+    formula_mends,
+    word_mends,
+    order_mends,
+    number_mends,
+    missing_mends,
+    surplus_mends,
+    other_mends,
+)
 
 
 def fault_of(lines):
@@ -147,9 +174,20 @@ def said_of(lines, line):
         for mend in make(lines, line):
             if helps(mend):
                 return mend.said
-    if line == 2:
-        return "this line is `logic` and one of the words %s" % listed(LOGICS)
+    if is_too_deep(lines, line):
+        return "a proof is at most 4,096 steps deep, and this one is deeper here"
     return "a line is missing here: the text ends too early" if line == len(lines) else "this line can't stand here"
+
+
+def is_too_deep(lines, line):
+    """Whether a step of a proof stands in this line that would be deeper than the others may be."""
+    depths = [1]
+    for source in lines[4 : line - 1]:
+        depth = depths.pop()
+        depths += [depth + 1] * ARITY.get(source.split(b" ")[0].decode("latin-1"), 0)
+        if not depths:
+            return False
+    return lines[3:4] == [b"proof"] and depths[-1] > DEPTH_LIMIT
 
 
 def twice(lines):
