@@ -55,6 +55,7 @@ PAPERS = [
     (GOOD, "certificate 1", "certificate 2", "version 2 isn't read", 1),
     (GOOD, "certificate 1\n", "", "the first line is `certificate 1`", 1),
     (GOOD, "p -> q", "p => q", "what stands behind `formula` is no formula's text", 3),
+    (GOOD, "certificate 1", "\ufeffcertificate 1", "a byte order mark begins the file: save it without one", 1),
     (GOOD, GOOD, "", "the line `certificate 1` is missing here", 1),
 ]
 # version 2, with the node `box 0` in two lines
@@ -125,6 +126,9 @@ def check_told(report):
         check_lines(report, text, faults.explain(text.encode()), said, caret)
     for text, line, said, caret in slips.TOLD:
         check_lines(report, text, faults.explain(text.encode(), line), said, caret)
+    said = "the file is in UTF-16: save it as ASCII, or as UTF-8 without a byte order mark"
+    for explain, text in ((faults.explain, "print p;\n"), (papers.explain, GOOD)):
+        report.compare("what is told of %r in UTF-16" % text[:9], [said], explain(text.encode("utf-16")))
     for text in slips.RIGHT:
         report.compare("what is told of %r" % text, [], faults.explain(text.encode()))
 
@@ -154,6 +158,8 @@ def check_kinds(report):
 def check_papers(report):
     for text in (GOOD, PROOF):
         report.compare("a certificate's text", [], papers.explain(text.encode()))
+    told = papers.explain(GOOD.encode() + b"\n" * 1048576)
+    report.compare("a long certificate", ["a certificate's text has at most 1,048,576 bytes"], told)
     for text, old, new, said, line in PAPERS:
         lines = papers.explain(text.replace(old, new).encode())
         report.check("a certificate with %r" % new[:40], bool(lines) and lines[0].startswith(said), str(lines))

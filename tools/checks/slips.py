@@ -120,7 +120,6 @@ TOLD = [
     ("L := append(L, p);", "fault: line 1: range", "a list would be too heavy", "append"),
     ("print A;", "fault: line 1: text limit", "the line to print would be longer than 1,048,576 bytes", None),
     ("print 1;", "fault: line 1: step limit", "a run has at most 1,000,000 steps", None),
-    ("print 1;", "fault: file limit", "a script has at most 1,048,576 bytes", None),
     ("print 1;", "fault: line 1: nosuch", None, None),
 ]
 # a script whose text has a fault for which no mend is known, what the first line begins with, and what stands at the caret
@@ -145,6 +144,7 @@ TEXTS = [
     ('print "a中ö";', "a text holds printable ASCII alone", "中"),
     ("\tprint\t[]p;\r\nprint q;\r\n", "`[]` is written `box`", "[]p"),
     ("print p\r\nprint q;\r\n", "`;` is missing here", ""),
+    ("#" * 1048577, "a script has at most 1,048,576 bytes", None),
     ("print p # e\u0301 中 □\n& []q;", "`[]` is written `box`", "[]q"),
 ]
 # texts with nothing wrong: tabs and carriage returns are white space, and comments may hold any letters

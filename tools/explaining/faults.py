@@ -9,9 +9,16 @@ from explaining.guesses import guess
 from explaining.logics import HAS_INTERPOLANTS, listed
 from explaining.tokens import FUNCTIONS, LOGICS, RESERVED, UNUSED, place
 
+FILE_LIMIT = 1048576
 NAMES = {"name": "a name has at most 64 bytes", "number": "a number is at most 18,446,744,073,709,551,615"}
 WANTED = {"operand": "a value", "statement": "a statement", "script variable": "a script variable"}
 NESTED = "more than 400 constructs are unfinished here: name a part by `A := ..;`"
+
+
+def wrong_encoding(data):
+    """What is said of a file whose first bytes show that its letters are no bytes of ASCII; or None."""
+    is_wide = data[:2] in (b"\xff\xfe", b"\xfe\xff")
+    return "the file is in UTF-16: save it as ASCII, or as UTF-8 without a byte order mark" if is_wide else None
 
 
 def pointed(data, line, column=None):
@@ -121,6 +128,10 @@ def explain(data, fault_line=None):
         from explaining.faults import explain
         for line in explain(data, "fault: line 1 column 9: unexpected"): ...
     """
+    if len(data) > FILE_LIMIT:
+        return ["a script has at most 1,048,576 bytes: split it"]
+    if wrong_encoding(data):
+        return [wrong_encoding(data)]
     fault = first_fault(data)
     if fault:
         return told_of_syntax(data, fault)

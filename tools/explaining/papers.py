@@ -8,7 +8,7 @@ from collections import namedtuple
 
 from certificates.formulas import NoFormula, printed, spelled
 from certificates.texts import ARITY, DEPTH_LIMIT, LOGICS, Fault, read
-from explaining.faults import pointed
+from explaining.faults import FILE_LIMIT, pointed, wrong_encoding
 from explaining.guesses import near
 from explaining.logics import listed
 
@@ -168,6 +168,8 @@ def said_of(lines, line):
     """What is wrong in a line, from 1."""
     if lines[0] == b"certificate 2":
         return "version 2 isn't read: the first line is `certificate 1`"
+    if lines[0].startswith("\ufeff".encode()):
+        return "a byte order mark begins the file: save it without one"
     if line == 1 and lines != [b""] and lines[0] != b"certificate 1\r":
         return "the first line is `certificate 1`"
     for make in MAKERS:
@@ -205,6 +207,8 @@ def twice(lines):
 def explain(data):
     """The lines that explain the first fault of a certificate's bytes; none where it is a certificate's text."""
     lines = data.split(b"\n")
+    if len(data) > FILE_LIMIT or wrong_encoding(data):
+        return [wrong_encoding(data) or "a certificate's text has at most 1,048,576 bytes"]
     line = fault_of(lines)
     if line is None:
         return []

@@ -162,15 +162,12 @@ TOLD = {
     "range": of_range,
     "step limit": of_steps,
 }
-FILE_LIMIT = "a script has at most 1,048,576 bytes: split it"
 
 
 def told(data, fault_line):
     """What is said of a fault line of a run, with its line, and the offset of what is meant, or None; None where the line
     is no such fault's.
     """
-    if fault_line == "fault: file limit":
-        return FILE_LIMIT, None, None
     head = re.fullmatch(r"fault: line (\d+): (.*)", fault_line)
     for pattern, tell in TOLD.items() if head else ():
         match = re.fullmatch(pattern, head.group(2))
