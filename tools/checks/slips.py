@@ -145,6 +145,8 @@ TEXTS = [
     ("\tprint\t[]p;\r\nprint q;\r\n", "`[]` is written `box`", "[]p"),
     ("print p\r\nprint q;\r\n", "`;` is missing here", ""),
     ("#" * 1048577, "a script has at most 1,048,576 bytes", None),
+    ("print %s[]p;" % (1000 * "~"), "more than 400 constructs are unfinished here", "~~~"),
+    ("print %s[]p;" % (200 * "p & "), "`[]` is written `box`", "[]p"),
     ("print p # e\u0301 中 □\n& []q;", "`[]` is written `box`", "[]q"),
 ]
 # texts with nothing wrong: tabs and carriage returns are white space, and comments may hold any letters

@@ -10,6 +10,8 @@ from explaining.logics import HAS_INTERPOLANTS, listed
 from explaining.tokens import FUNCTIONS, LOGICS, RESERVED, UNUSED, place
 
 FILE_LIMIT = 1048576
+# how many letters of a source line are shown on each side of its caret
+SHOWN = 100
 NAMES = {"name": "a name has at most 64 bytes", "number": "a number is at most 18,446,744,073,709,551,615"}
 WANTED = {"operand": "a value", "statement": "a statement", "script variable": "a script variable"}
 NESTED = "more than 400 constructs are unfinished here: name a part by `A := ..;`"
@@ -22,12 +24,16 @@ def wrong_encoding(data):
 
 
 def pointed(data, line, column=None):
-    """The source line with its number, and a caret under a column, which counts bytes."""
+    """The source line with its number, and a caret under a column, which counts bytes. Of a long line a part is shown."""
     source = (data.split(b"\n") + [b""] * 2)[line - 1].rstrip(b"\r")
-    head = "%5d | " % line
-    if column is None:
-        return [head + shown(source)]
-    return [head + shown(source), " " * (len(head) + width(shown(source[: column - 1]))) + "^"]
+    cut = column - 1 if column else 0
+    head, before, behind = "%5d | " % line, shown(source[:cut]), shown(source[cut:])
+    if len(before) > SHOWN:
+        before = "..." + before[3 - SHOWN :]
+    if len(behind) > SHOWN:
+        behind = behind[: SHOWN - 3] + "..."
+    caret = [" " * (len(head) + width(before)) + "^"] if column else []
+    return [head + before + behind] + caret
 
 
 def shown(source):
@@ -116,7 +122,7 @@ def told_of_run(data, fault_line):
     said, line, at = told
     if at is not None:
         return [said] + pointed(data, *place(data, at))
-    return [said] + (pointed(data, line) if line else [])
+    return [said] + pointed(data, line)
 
 
 def explain(data, fault_line=None):

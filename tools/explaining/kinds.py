@@ -42,6 +42,7 @@ CALLS = {
     "letterless": ((FORMULA,), FORMULA),
     "shared": ((CERTIFICATE,), LIST | MAYBE),
 }
+ROUNDS = 20
 # what the expressions at the head of a statement are to be
 HEADS = {":=": KINDS, "print": KINDS, "if": TRUTH, "while": TRUTH, "to": NUMBER, "in": LIST}
 WORDS = {"true": COMPOUND, "false": COMPOUND, "yes": TRUTH, "no": TRUTH, "none": MAYBE}
@@ -103,16 +104,17 @@ def all_of(statements):
 
 
 def variables_of(statements):
-    """The kinds of the values that each script variable is given somewhere."""
+    """The kinds of the values that each script variable is given somewhere; all kinds where that takes long to find."""
     variables = {}
     giving = [statement for statement in all_of(statements) if statement.target]
-    while True:
+    for _ in range(ROUNDS):
         before = dict(variables)
         for statement in giving:
             name = statement.target.text
             variables[name] = variables.get(name, frozenset()) | given(statement, variables)
         if variables == before:
             return variables
+    return dict.fromkeys(variables, KINDS)
 
 
 def inside(node):

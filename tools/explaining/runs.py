@@ -45,10 +45,14 @@ class Line:
     def calls(self, *functions):
         return [node for node in self.nodes() if node.shape == "call" and node.token.text in functions]
 
-    def written(self, name):
-        """The expression whose value a script variable has, where one statement alone gives it a value; or None."""
-        giving = [statement for statement in all_of(self.statements) if statement.target and statement.target.text == name]
-        return giving[0].heads[0] if len(giving) == 1 and giving[0].word == ":=" else None
+    def written(self):
+        """The expressions whose values script variables have, of those that one statement alone gives a value."""
+        found = {}
+        for statement in all_of(self.statements):
+            if statement.target:
+                name, is_only = statement.target.text, statement.word == ":=" and statement.target.text not in found
+                found[name] = statement.heads[0] if is_only else None
+        return found
 
 
 def only(nodes):
@@ -94,23 +98,25 @@ def of_unbound(line, name):
     return said + "; the variables of formulas begin with a lower-case letter: `%s`" % small, at
 
 
-def bare_occurrence(line, name, node, seen):
+def bare_occurrence(line, name, formula):
     """The offset of an occurrence of a variable that stands under no `box` and `dia`, for certain; or None."""
-    node = bare(node)
-    if node.shape == "atom" and node.token.text == name:
-        return node.begin
-    parts = node.parts if node.token.text in CONNECTIVES and node.shape in ("binary", "prefix") else []
-    if node.shape == "atom" and node.token.text not in seen:
-        seen.add(node.token.text)
-        meant = line.written(node.token.text)
-        parts = [meant] if meant else []
-    return next((at for at in (bare_occurrence(line, name, part, seen) for part in parts) if at is not None), None)
+    written, waiting = line.written(), [formula]
+    while waiting:
+        node = bare(waiting.pop())
+        word = node.token.text
+        if node.shape == "atom" and word == name:
+            return node.begin
+        if node.shape in ("binary", "prefix") and word in CONNECTIVES:
+            waiting += reversed(node.parts)
+        meant = written.pop(word, None) if node.shape == "atom" else None
+        waiting += [meant] if meant else []
+    return None
 
 
 def of_modalised(line):
     for call in line.calls("fixpoint"):
         name = bare(call.parts[0]).token.text
-        at = bare_occurrence(line, name, call.parts[1], set())
+        at = bare_occurrence(line, name, call.parts[1])
         if at is not None:
             return "this `%s` stands under no `box` and `dia`, as each has to for `fixpoint`" % name, at
     return "each occurrence of the variable has to be under `box` or `dia`, and one isn't", None
