@@ -5,12 +5,15 @@ import os
 import subprocess
 import tempfile
 
-from checks import slips
+from checks import slips, words
 from checks.report import TOP, text_of
 from explaining import faults, misfits, papers
 from explaining.grammar import fault_line, first_fault, read
 from explaining.guesses import guess, mended
+from explaining.kinds import CALLS, SIGNS
+from explaining.logics import HAS_INTERPOLANTS
 from explaining.misfits import bare
+from explaining.tokens import FUNCTIONS, LOGICS, RESERVED
 
 PROGRAM = os.path.join(TOP, "crates", "lw", "out", "lw")
 GOOD = "certificate 1\nlogic k\nformula p -> q\nmodel\nworlds 1\nrefuted 0\nworld 0 sees true p\nend\n"
@@ -60,6 +63,17 @@ PAPERS = [
 ]
 # version 2, with the node `box 0` in two lines
 TWICE = "certificate 2\nlogic k\nformulas 4\n0 var p\n1 box 0\n2 box 0\n3 -> 1 2\ngoal 3\nproof\none F 3\nclose T 1\nend\n"
+
+
+def check_tables(report):
+    """The words of scripts are those of the crates' sources, and no function, sign or logic is without its row."""
+    groups = words.script_groups()
+    report.compare("explain's reserved words", words.reserved(), set(RESERVED))
+    report.compare("explain's logics", words.logics(), set(LOGICS))
+    report.compare("explain's functions", groups["function"], set(FUNCTIONS))
+    report.compare("explain's kinds of arguments", FUNCTIONS, {name: len(row[0]) for name, row in CALLS.items()})
+    report.compare("explain's signs", (groups["connective"] | groups["word"] | words.script_symbols()) - set("()[],;") - {":="}, set(SIGNS))
+    report.check("explain's logics with interpolants", set(LOGICS) <= set(HAS_INTERPOLANTS), str(HAS_INTERPOLANTS))
 
 
 def check_mends(report):
@@ -179,6 +193,7 @@ def check_examples(report):
 
 
 def check_all(report):
+    check_tables(report)
     check_mends(report)
     check_by_program(report)
     check_told(report)
