@@ -24,25 +24,55 @@ awk '/^print K;/ { print "fault: line " NR ": unbound K"; exit 1 }
 /^while/ { print "at work"; fflush(); system("sleep 30") }
 /^print[ \t]*"/ { gsub(/^print[ \t]*"|";/, ""); print }' "$2"
 """
-# what is entered, what is written, what is told (or None), and the status; a fault's column is that in its statement
+# what is entered, what is written, what is told, and the status; a fault's column is that in its statement
 TALKS = [
     ("", "", "", 0),
     ("# nothing\n\n", "", "", 0),
     ('print "a";\nprint "b";\n', "a\nb\n", "", 0),
     ('print "a"; print "b";', "a\nb\n", "", 0),
-    ('print "a";\nprint K;\nprint "b";\n', "a\nfault: line 2: unbound K\nb\n", "logics are written small: did you mean `k`?\n    2 | print K;\n", 1),
-    ('print "a";\nprint []p;\n:show\n', 'a\nfault: line 2 column 9: unexpected\n    1 | print "a";\n', "`[]` is written `box`\n    2 | print []p;\n              ^\n", 1),
-    ('print "a"; print []p; print "b";\n:show\n', 'a\nfault: line 2 column 9: unexpected\n    1 | print "a";\n', None, 1),
-    ('A := p # a part\n;\nif yes then\n:show\nprint A;\nend print\n:quit\nprint "b";', "    1 | A := p # a part\n    2 | ;\n", "", 0),
+    (
+        'print "a";\nprint K;\nprint "b";\n',
+        "a\nfault: line 2: unbound K\nb\n",
+        "logics are written small: did you mean `k`?\n    2 | print K;\n              ^\n",
+        1,
+    ),
+    (
+        'print "a";\nprint []p;\n:show\n',
+        'a\nfault: line 2 column 9: unexpected\n    1 | print "a";\n',
+        "`[]` is written `box`\n    2 | print []p;\n              ^\n",
+        1,
+    ),
+    (
+        'print "a"; print []p; print "b";\n:show\n',
+        'a\nfault: line 2 column 9: unexpected\n    1 | print "a";\n',
+        "`[]` is written `box`\n    2 | print []p; print \"b\";\n              ^\n",
+        1,
+    ),
+    ("A := p # a part\n;\nif yes then\n:show\nprint A;\nend print\n:quit\nprint p;", "    1 | A := p # a part\n    2 | ;\n", "", 0),
     ("A\n:= p;\n:show", "    1 | A\n    2 | := p;\n", "", 0),
-    ("print p\n", "fault: line 2 column 1: unexpected\n", "`;` is missing here\n    1 | print p\n               ^\n", 1),
-    ("print 1; \udcff\n:show", "fault: line 2 column 1: unexpected\n    1 | print 1;\n", None, 1),
+    (
+        "print p\n",
+        "fault: line 2 column 1: unexpected\n",
+        "`;` is missing here\n    1 | print p\n               ^\n",
+        1,
+    ),
+    (
+        "print 1; \udcff\n:show",
+        "fault: line 2 column 1: unexpected\n    1 | print 1;\n",
+        "the byte 255 can't stand here; what can: a statement\n    2 | \ufffd\n        ^\n",
+        1,
+    ),
     (":seconds\n:seconds 3\n:seconds\n:time", "10 seconds\n3 seconds\nnothing was run yet\n", "", 0),
     (":seconds 0", "", "shell: :seconds takes a whole number of seconds from 1 on: `:seconds 60`\n", 1),
     (":shw", "", "shell: :shw is no command; the commands are :show, :time, :seconds, :save, :help, :quit\n", 1),
     (":save", "", "shell: :save takes the name of a file: `:save lesson.lw`\n", 1),
     (":save /nosuch/file", "", "shell: /nosuch/file can't be written: No such file or directory\n", 1),
-    (":seconds 1\nwhile yes do end\n:show\n", "at work\n", "shell: stopped after 1 seconds, as :seconds has it; the statement is left out\n", 1),
+    (
+        ":seconds 1\nwhile yes do end\n:show\n",
+        "at work\n",
+        "shell: stopped after 1 seconds, as :seconds has it; the statement is left out\n",
+        1,
+    ),
 ]
 # with the built program: what is entered and what is written
 REAL = [
@@ -63,10 +93,7 @@ def talk(program, text, *words, **more):
 
 def check_talks(report, program):
     for text, written, told, status in TALKS:
-        found = talk(program, text)
-        if told is None:
-            found = (found[0], None, found[2])
-        report.compare("the shell on %r" % text, (written, told, status), found)
+        report.compare("the shell on %r" % text, (written, told, status), talk(program, text))
 
 
 def check_saved(report, program, room):
@@ -84,7 +111,8 @@ def check_ends(report, program):
     """No input, and no program."""
     command = [os.path.join(TOP, "tools", "shell"), "--program", program]
     closed = subprocess.run(command, stderr=subprocess.PIPE, text=True, preexec_fn=lambda: os.close(0))
-    report.compare("the shell without input", ("shell: standard input can't be read: it is closed\n", 3), (closed.stderr, closed.returncode))
+    wanted = ("shell: standard input can't be read: it is closed\n", 3)
+    report.compare("the shell without input", wanted, (closed.stderr, closed.returncode))
     written, told, status = talk(os.path.join(TOP, "nosuch"), 'print "a";\n:show\n')
     report.check("the shell without a program", (written, status) == ("", 2) and "nosuch is no program" in told, told)
 

@@ -65,11 +65,19 @@ def sign_guesses(data, fault):
     for sign, spelling, said in SIGNS:
         if data.startswith(sign.encode(), at):
             yield Guess(said, at, at, at + len(sign.encode()), spelling)
+
+
+def longer_guesses(data, fault):
+    at = fault.token.at
     for sign, spelling, said in LONGER:
-        for start in range(at - len(sign) + 1, at):
-            if start >= 0 and data.startswith(sign.encode(), start):
-                yield Guess(said, start, start, start + len(sign), spelling)
-    before = fault.before
+        start = data.find(sign.encode(), max(0, at - len(sign) + 1), at + len(sign) - 1)
+        if 0 <= start < at:
+            yield Guess(said, start, start, start + len(sign), spelling)
+
+
+def box_guesses(data, fault):
+    """`[]` is a list to the grammar, so the fault is behind it."""
+    at, before = fault.token.at, fault.before
     if before and before.text == "]" and data[:at].rstrip().endswith(b"[]"):
         start = data.rindex(b"[]", 0, at)
         yield Guess("`[]` is written `box`", start, start, start + 2, "box ")
@@ -142,7 +150,8 @@ def word_guesses(_, fault):
 def statement_guesses(_, fault):
     token, before = fault.token, fault.before
     if fault.wanted == "statement" and token.text == ";":
-        said = "no `;` comes here: `end` ends its statement alone" if before and before.text == "end" else "this `;` ends no statement"
+        is_behind_end = before and before.text == "end"
+        said = "no `;` comes here: `end` ends its statement alone" if is_behind_end else "this `;` ends no statement"
         yield Guess(said, token.at, token.at, token.at + 1, "")
     if fault.wanted == "statement" and token.text == "end":
         yield Guess("this `end` closes nothing", token.at, token.at, token.at + 3, "")
@@ -151,29 +160,50 @@ def statement_guesses(_, fault):
         yield Guess("this is no statement: `print` writes a value", begin.at, begin.at, begin.at, "print ")
 
 
-def text_guesses(data, fault):
-    """A text that holds a byte outside ASCII, or isn't closed; single quotes."""
+def letter_guesses(data, fault):
+    """A text that holds a byte outside printable ASCII."""
+    at = fault.token.at
+    match = re.match(rb'"([^"\n]*)"', data[at:])
+    odd = match and re.search(rb"[^ -~]", match.group(1))
+    if odd:
+        meant = re.sub(rb"[^ -~]", b"?", match.group(1)).decode()
+        said = "a text holds printable ASCII alone, and this letter isn't"
+        yield Guess(said, at + 1 + odd.start(), at + 1, at + match.end() - 1, meant)
+
+
+def quote_guesses(data, fault):
+    """Other quotes than `"`."""
     at = fault.token.at
     line = data[at:].split(b"\n")[0]
-    if fault.token.text == '"' and b'"' in line[1:]:
-        inside = line[1 : line.index(b'"', 1)]
-        for odd, byte in enumerate(inside):
-            if not 32 <= byte < 127:
-                said = "a text holds printable ASCII alone, and this letter isn't"
-                mended = "".join(chr(each) if 32 <= each < 127 else "?" for each in inside)
-                yield Guess(said, at + 1 + odd, at + 1, at + 1 + len(inside), mended)
-                return
-    if fault.token.text == '"':
-        end = at + len(line.rstrip().rstrip(b";"))
-        yield Guess("a text is closed by `\"` in its line", at, end, end, '"')
     for opening, closing in QUOTES:
-        if line.startswith(opening) and closing in line[len(opening) :]:
-            end = line.index(closing, len(opening))
+        end = line.find(closing, len(opening))
+        if line.startswith(opening) and end >= 0:
             inside = line[len(opening) : end].decode("latin-1")
             yield Guess("a text stands between `\"` and `\"`", at, at, at + end + len(closing), '"%s"' % inside)
 
 
-MAKERS = (sign_guesses, greater_guesses, text_guesses, name_guesses, word_guesses, statement_guesses, missing_guesses)
+def open_text_guesses(data, fault):
+    """A text that isn't closed in its line."""
+    at = fault.token.at
+    line = data[at:].split(b"\n")[0]
+    if fault.token.text == '"':
+        end = at + len(line.rstrip().rstrip(b";"))
+        yield Guess("a text is closed by `\"` in its line", at, end, end, '"')
+
+
+MAKERS = (
+    sign_guesses,
+    longer_guesses,
+    box_guesses,
+    greater_guesses,
+    letter_guesses,
+    quote_guesses,
+    open_text_guesses,
+    name_guesses,
+    word_guesses,
+    statement_guesses,
+    missing_guesses,
+)
 
 
 def mended(data, guess_made):

@@ -8,10 +8,9 @@ from collections import namedtuple
 from explaining.tokens import LOGICS
 
 KINDS = frozenset("letter compound truth number text logic list none certificate".split())
-LETTER, TRUTH, NUMBER, LOGIC, LIST, CERTIFICATE = (frozenset([kind]) for kind in "letter truth number logic list certificate".split())
-FORMULA, COMPOUND = frozenset(["letter", "compound"]), frozenset(["compound"])
-COMPARED = KINDS - CERTIFICATE
-MAYBE = frozenset(["none"])
+LETTER, COMPOUND, TRUTH, NUMBER = (frozenset([kind]) for kind in ("letter", "compound", "truth", "number"))
+LOGIC, LIST, MAYBE, CERTIFICATE = (frozenset([kind]) for kind in ("logic", "list", "none", "certificate"))
+FORMULA, COMPARED = LETTER | COMPOUND, KINDS - CERTIFICATE
 # what each sign takes, and what it gives
 SIGNS = {
     **dict.fromkeys(("~", "box", "dia", "&", "v", "->", "<->"), (FORMULA, COMPOUND)),
@@ -103,15 +102,21 @@ def all_of(statements):
         yield from all_of(statement.body)
 
 
+def with_given(giving, variables):
+    """The kinds of script variables, with those that these statements give, as far as the others are known."""
+    variables = dict(variables)
+    for statement in giving:
+        name = statement.target.text
+        variables[name] = variables.get(name, frozenset()) | given(statement, variables)
+    return variables
+
+
 def variables_of(statements):
     """The kinds of the values that each script variable is given somewhere; all kinds where that takes long to find."""
-    variables = {}
     giving = [statement for statement in all_of(statements) if statement.target]
+    variables, before = {}, None
     for _ in range(ROUNDS):
-        before = dict(variables)
-        for statement in giving:
-            name = statement.target.text
-            variables[name] = variables.get(name, frozenset()) | given(statement, variables)
+        variables, before = with_given(giving, variables), variables
         if variables == before:
             return variables
     return dict.fromkeys(variables, KINDS)
