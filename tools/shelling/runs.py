@@ -2,6 +2,7 @@
 
 import os
 import select
+import shutil
 import signal
 import subprocess
 import tempfile
@@ -18,23 +19,38 @@ def run(command, script, seconds, take):
     """Carries out `command FILE`, where the file holds the script's bytes, and gives the End. Each piece of bytes that it
     writes goes to `take` at once. The run is stopped after so many seconds, or where the user interrupts it.
     """
-    with tempfile.NamedTemporaryFile(suffix=".lw") as file, tempfile.TemporaryFile() as told:
-        file.write(script)
-        file.flush()
-        begin = time.monotonic()
-        # a session of its own: an interrupt at the terminal comes to the shell alone, which stops all that the run started
-        process = subprocess.Popen(
-            command + [file.name], stdin=subprocess.DEVNULL, stdout=subprocess.PIPE, stderr=told, start_new_session=True
-        )
-        try:
-            stopped = "" if passed_on(process, begin + seconds, take) else "late"
-        except KeyboardInterrupt:
-            stopped = "interrupted"
-        finally:
-            stop(process)
-        spent = time.monotonic() - begin
-        told.seek(0)
-        lines = told.read().decode("utf-8", "replace").splitlines()
+    room = tempfile.mkdtemp()
+    try:
+        path = os.path.join(room, "script.lw")
+        with open(path, "wb") as file:
+            file.write(script)
+        with open(os.path.join(room, "told"), "w+b") as told:
+            return watched(begun(command + [path], room, told), seconds, take, told)
+    finally:
+        shutil.rmtree(room, ignore_errors=True)
+
+
+def begun(words, room, told):
+    """The process, in a session of its own: an interrupt at the terminal comes to the shell alone, which stops all that
+    the run started. What that leaves among temporary files stands in the room.
+    """
+    environment = dict(os.environ, TMPDIR=room)
+    channels = {"stdin": subprocess.DEVNULL, "stdout": subprocess.PIPE, "stderr": told}
+    return subprocess.Popen(words, env=environment, start_new_session=True, **channels)
+
+
+def watched(process, seconds, take, told):
+    begin, stopped = time.monotonic(), ""
+    try:
+        if not passed_on(process, begin + seconds, take):
+            stopped = "late"
+    except KeyboardInterrupt:
+        stopped = "interrupted"
+    finally:
+        stop(process)
+    spent = time.monotonic() - begin
+    told.seek(0)
+    lines = told.read().decode("utf-8", "replace").splitlines()
     return End(None if stopped else process.returncode, stopped, lines, spent)
 
 
