@@ -137,7 +137,7 @@ def check_lines(report, text, lines, said, caret):
 
 
 def check_told(report):
-    for text, said, caret in slips.TEXTS:
+    for text, said, caret in slips.TEXTS + slips.SURE:
         check_lines(report, text, faults.explain(text.encode()), said, caret)
     for text, line, said, caret in slips.TOLD:
         check_lines(report, text, faults.explain(text.encode(), line), said, caret)
@@ -185,13 +185,18 @@ def check_papers(report):
 
 
 def check_examples(report):
-    """The places of the examples' faults, which stand in their expected outputs."""
+    """The places of the examples' faults, which stand in their expected outputs, and values of a wrong kind in them."""
     for path in sorted(glob.glob(os.path.join(TOP, "examples", "run", "*.txt"))):
         last = (text_of(path[:-3] + "expected").splitlines() or [""])[-1]
         with open(path, "rb") as file:
-            fault = first_fault(file.read())
+            data = file.read()
+        fault = first_fault(data)
         told = fault_line(fault) if fault else ""
         report.compare("the fault of %s" % os.path.basename(path), last if " column " in last else "", told)
+        # where a variable has no value, that may come before the kind
+        wanted = (True,) if last.endswith(": kind") else (True, False) if " unbound " in last else (False,)
+        found = misfits.certain(data) is not None
+        report.check("a value of a wrong kind in %s" % os.path.basename(path), found in wanted, str(found))
 
 
 def check_all(report):

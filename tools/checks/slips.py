@@ -100,6 +100,8 @@ TOLD = [
     ("print provable(K5, p);", "fault: line 1: unbound K5", "there is no logic `K5`; " + LOGICS, "K5"),
     ("print provable(T, p);", "fault: line 1: unbound T", "there is no logic `T`; %s; `kt` has that name too" % LOGICS, "T"),
     ("print provable(k, T);", "fault: line 1: unbound T", "`T` was given no value; the variables of formulas begin with a lower-case letter: `t`", "T"),
+    ("print V;", "fault: line 1: unbound V", "`V` was given no value", "V"),
+    ("print X + 1;", "fault: line 1: unbound X", "`X` was given no value", "X"),
     ("Formula := p;\nprint Formual;", "fault: line 2: unbound Formual", "`Formual` was given no value: did you mean `Formula`?", "Formual"),
     ("print A;\nA := p;", "fault: line 1: unbound A", "`A` was given no value: what gives it one, in line 2, comes later", "A"),
     ("if no then A := p; end\nprint A;", "fault: line 2: unbound A", "`A` was given no value: what gives it one, in line 1, wasn't carried out", "A"),
@@ -148,6 +150,16 @@ TEXTS = [
     ("print %s[]p;" % (1000 * "~"), "more than 400 constructs are unfinished here", "~~~"),
     ("print %s[]p;" % (200 * "p & "), "`[]` is written `box`", "[]p"),
     ("print p # e\u0301 中 □\n& []q;", "`[]` is written `box`", "[]q"),
+]
+# scripts that are sure to come to a value of another kind, or aren't, though they have one
+SURE = [
+    ("print 1;\nprint p and q;", "between formulas `and` is written `&`", "and"),
+    ("A := p;\nif A then end", "`if` takes an answer here, and this is a formula", "A"),
+    ("while not p do end", "`not` takes an answer here, and this is a formula", "p do"),
+    ("print no and (p and q);", None, None),
+    ("if no then print p and q; end", None, None),
+    ("A := p;\nA := yes;\nprint A and yes;", None, None),
+    ("print X and yes;", None, None),
 ]
 # texts with nothing wrong: tabs and carriage returns are white space, and comments may hold any letters
 RIGHT = ["print\t1;\r\nprint 2;\r\n", "print p & q, yes and no;", "", "# é\n"]

@@ -3,7 +3,7 @@
 import re
 import unicodedata
 
-from explaining import runs
+from explaining import misfits, runs
 from explaining.grammar import first_fault
 from explaining.guesses import guess
 from explaining.logics import HAS_INTERPOLANTS, listed
@@ -120,16 +120,20 @@ def told_of_run(data, fault_line):
     if told is None:
         return []
     said, line, at = told
-    if at is not None:
-        return [said] + pointed(data, *place(data, at))
-    return [said] + pointed(data, line)
+    return [said] + (pointed(data, line) if at is None else pointed(data, *place(data, at)))
+
+
+def told_of_kinds(data):
+    told = misfits.certain(data)
+    return [told[0]] + pointed(data, *place(data, told[1])) if told else []
 
 
 def explain(data, fault_line=None):
     """The lines that explain a script's fault: what is wrong, the source line, and a caret where a column is known.
 
     `data` is the script's bytes, `fault_line` what the program wrote last (`fault: line 2: kind`), or None where it wasn't
-    run: then the text alone is judged. A list without lines means that nothing is known to be wrong. It raises nothing.
+    run: then the text alone is judged, and a value that is sure to be of another kind than what takes it. A list without
+    lines means that nothing is known to be wrong. It raises nothing.
 
         from explaining.faults import explain
         for line in explain(data, "fault: line 1 column 9: unexpected"): ...
@@ -141,4 +145,4 @@ def explain(data, fault_line=None):
     fault = first_fault(data)
     if fault:
         return told_of_syntax(data, fault)
-    return told_of_run(data, fault_line) if fault_line else []
+    return told_of_run(data, fault_line) if fault_line else told_of_kinds(data)

@@ -46,8 +46,9 @@ ROUNDS = 20
 HEADS = {":=": KINDS, "print": KINDS, "if": TRUTH, "while": TRUTH, "to": NUMBER, "in": LIST}
 WORDS = {"true": COMPOUND, "false": COMPOUND, "yes": TRUTH, "no": TRUTH, "none": MAYBE}
 
-# an operand whose kind isn't sure to be right: `taker` is the Node or the Statement that takes it, `place` its number there
-Site = namedtuple("Site", "taker place operand wanted kinds")
+# an operand whose kind isn't sure to be right: `taker` is the Node or the Statement that takes it, `is_met` whether it is
+# evaluated wherever the statement is
+Site = namedtuple("Site", "taker operand wanted kinds is_met")
 
 
 def is_wrong(site):
@@ -129,23 +130,24 @@ def inside(node):
     yield node
 
 
-def tests_of(node):
-    """The tests of kinds in an expression, in order: what takes an operand, its place there, the operand, and the kinds
-    that are taken. `and` and `or` test their left side before they look at the right one, all else tests when all
-    operands have values.
+def tests_of(node, is_met):
+    """The tests of kinds in an expression, in order: what takes an operand, the operand, the kinds that are taken, and
+    whether it is evaluated wherever the statement is. `and` and `or` test their left side before they look at the right
+    one, which they may leave; all else tests when all operands have values.
     """
-    rows = [(node, place, part, kinds) for place, (part, kinds) in enumerate(zip(node.parts, wanted_of(node)))]
     if node.token.text in ("and", "or"):
         left, right = node.parts
-        return tests_of(left) + rows[:1] + tests_of(right) + rows[1:]
-    return [test for part in node.parts for test in tests_of(part)] + rows
+        tests = [(node, left, TRUTH, is_met), (node, right, TRUTH, False)]
+        return tests_of(left, is_met) + tests[:1] + tests_of(right, False) + tests[1:]
+    tests = [(node, part, kinds, is_met) for part, kinds in zip(node.parts, wanted_of(node))]
+    return [test for part in node.parts for test in tests_of(part, is_met)] + tests
 
 
 def sites_of(statement, variables):
     """The Sites in the heads of a statement, in the order in which they are tested."""
-    tests = [test for head in statement.heads for test in tests_of(head)]
-    tests += [(statement, place, head, HEADS[statement.word]) for place, head in enumerate(statement.heads)]
-    for taker, place, operand, wanted in tests:
+    tests = [test for head in statement.heads for test in tests_of(head, True)]
+    tests += [(statement, head, HEADS[statement.word], True) for head in statement.heads]
+    for taker, operand, wanted, is_met in tests:
         found = kinds_of(operand, variables)
         if not found <= wanted:
-            yield Site(taker, place, operand, wanted, found)
+            yield Site(taker, operand, wanted, found, is_met)

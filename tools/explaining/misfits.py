@@ -160,3 +160,16 @@ def explained(data, begin, end):
         return None
     made = guess(data, sites, begin, end)
     return (made.said, made.at) if made else (told_of(sites[0]), sites[0].operand.begin)
+
+
+def certain(data):
+    """The same for the first statement of a script at which a run ends, if it comes there, whatever values it has; None
+    where the text shows none.
+    """
+    statements, _ = read(data)
+    variables = variables_of(statements)
+    for statement in statements:
+        sites = list(sites_of(statement, variables))
+        if sites and is_wrong(sites[0]) and sites[0].is_met:
+            return explained(data, statement.token.at, statement.token.at + 1)
+    return None

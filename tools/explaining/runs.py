@@ -5,10 +5,10 @@ import re
 
 from explaining import misfits
 from explaining.grammar import read
-from explaining.kinds import all_of, inside
+from explaining.kinds import all_of, inside, is_wrong
 from explaining.logics import listed, told_of_word, with_interpolants
 from explaining.misfits import bare, statements_at
-from explaining.tokens import LOGICS, place
+from explaining.tokens import LOGICS, RESERVED, place
 
 CONNECTIVES = ("~", "&", "v", "->", "<->")
 # the functions that take a logic take it first
@@ -87,15 +87,25 @@ def of_unbound(line, name):
     at = places[0] if places else None
     if at in [bare(call.parts[0]).begin for call in line.calls(*OF_LOGIC)] or name.lower() in LOGICS:
         return told_of_word(name), at
-    names = {statement.target.text: statement.token for statement in reversed(list(all_of(line.statements))) if statement.target}
+    begins = {each.target.text: each.token.at for each in reversed(list(all_of(line.statements))) if each.target}
     said = "`%s` was given no value" % name
-    if name in names:
-        which = "comes later" if names[name].at >= line.begin else "wasn't carried out"
-        return said + ": what gives it one, in line %d, %s" % (place(line.data, names[name].at)[0], which), at
-    for near in difflib.get_close_matches(name, names, 1, 0.7):
+    if name in begins:
+        which = "comes later" if begins[name] >= line.begin else "wasn't carried out"
+        return said + ": what gives it one, in line %d, %s" % (place(line.data, begins[name])[0], which), at
+    before = [other for other, begin in begins.items() if begin < line.begin]
+    for near in difflib.get_close_matches(name, before, 1, 0.7):
         return said + ": did you mean `%s`?" % near, at
     small = name[0].lower() + name[1:]
+    if at is None or small in RESERVED or not fits(line, at, small):
+        return said, at
     return said + "; the variables of formulas begin with a lower-case letter: `%s`" % small, at
+
+
+def fits(line, at, name):
+    """Whether the variable of this name may stand where a word of the same length stands."""
+    other = line.data[:at] + name.encode() + line.data[at + len(name) :]
+    sites = misfits.sites_at(other, line.begin, line.end) or []
+    return not any(is_wrong(site) and bare(site.operand).begin == at for site in sites)
 
 
 def bare_occurrence(line, name, formula):
