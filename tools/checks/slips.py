@@ -100,6 +100,7 @@ TOLD = [
     ("print provable(K5, p);", "fault: line 1: unbound K5", "there is no logic `K5`; " + LOGICS, "K5"),
     ("print provable(T, p);", "fault: line 1: unbound T", "there is no logic `T`; %s; `kt` has that name too" % LOGICS, "T"),
     ("print provable(k, T);", "fault: line 1: unbound T", "`T` was given no value; the variables of formulas begin with a lower-case letter: `t`", "T"),
+    ("print fixpoint(P, box p);", "fault: line 1: unbound P", "`P` was given no value; the variables of formulas begin with a lower-case letter: `p`", "P"),
     ("print V;", "fault: line 1: unbound V", "`V` was given no value", "V"),
     ("print X + 1;", "fault: line 1: unbound X", "`X` was given no value", "X"),
     ("Formula := p;\nprint Formual;", "fault: line 2: unbound Formual", "`Formual` was given no value: did you mean `Formula`?", "Formual"),
@@ -121,7 +122,7 @@ TOLD = [
     ("print item(L, 2);", "fault: line 1: range", "the list has no such item", "item"),
     ("L := append(L, p);", "fault: line 1: range", "a list would be too heavy", "append"),
     ("print A;", "fault: line 1: text limit", "the line to print would be longer than 1,048,576 bytes", None),
-    ("print 1;", "fault: line 1: step limit", "a run has at most 1,000,000 steps", None),
+    ("while yes do print 1; end", "fault: line 1: step limit", "a run has at most 1,000,000 steps: a loop may be without an end", None),
     ("print 1;", "fault: line 1: nosuch", None, None),
 ]
 # a script whose text has a fault for which no mend is known, what the first line begins with, and what stands at the caret
