@@ -13,7 +13,7 @@ from explaining.guesses import guess, mended
 from explaining.kinds import CALLS, SIGNS
 from explaining.logics import HAS_INTERPOLANTS
 from explaining.misfits import bare
-from explaining.tokens import FUNCTIONS, LOGICS, RESERVED
+from explaining.tokens import FUNCTIONS, LOGICS, RESERVED, tokens
 
 PROGRAM = os.path.join(TOP, "crates", "lw", "out", "lw")
 GOOD = "certificate 1\nlogic k\nformula p -> q\nmodel\nworlds 1\nrefuted 0\nworld 0 sees true p\nend\n"
@@ -77,6 +77,10 @@ def check_tables(report):
     report.check("explain's logics with interpolants", set(LOGICS) <= set(HAS_INTERPOLANTS), str(HAS_INTERPOLANTS))
 
 
+def word_list(data):
+    return [token.text for token in tokens(data)]
+
+
 def check_mends(report):
     for text, said, meant in slips.MENDED:
         data = text.encode()
@@ -84,7 +88,8 @@ def check_mends(report):
         made = guess(data, fault)
         report.check("a guess at %r" % text, made is not None and made.said.startswith(said), str(made))
         if made and meant:
-            report.compare("the mend of %r" % text, meant.split(), mended(data, made).decode().split())
+            wanted, found = (word_list(each) for each in (meant.encode(), mended(data, made)))
+            report.compare("the mend of %r" % text, wanted, found)
         if made:
             report.compare("the grammar on the mend of %r" % text, None, first_fault(mended(data, made)))
 

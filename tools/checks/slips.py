@@ -1,6 +1,7 @@
 """Scripts with one mistake each, and what is to be told of them."""
 
-# the script, what the first line begins with, and the text as it was meant, apart from white space; or None
+# the script, what the first line begins with, and the text as it was meant, apart from white space and
+# comments; or None
 MENDED = [
     ("print p\nprint q;", "`;` is missing", "print p;\nprint q;"),
     ("if yes print 1; end", "`then` is missing", "if yes then print 1; end"),
@@ -150,6 +151,7 @@ TEXTS = [
     ("#" * 1048577, "a script has at most 1,048,576 bytes", None),
     ("print %s[]p;" % (1000 * "~"), "more than 400 constructs are unfinished here", "~~~"),
     ("print %s[]p;" % (200 * "p & "), "`[]` is written `box`", "[]p"),
+    ("print \ufeffp;", "the byte 239 can't stand here", "\ufffd"),
     ("print p # e\u0301 中 □\n& []q;", "`[]` is written `box`", "[]q"),
 ]
 # scripts that are sure to come to a value of another kind, or aren't, though they have one

@@ -5,31 +5,23 @@ A guess is told only where the mended text has its first fault further on, or no
 
 import difflib
 import re
+from codecs import BOM_UTF8
 from collections import namedtuple
 
+from common.signs import OURS
 from explaining.grammar import first_fault
 from explaining.tokens import FUNCTIONS, RESERVED, STATEMENTS, UNUSED, end_of
 
 # what is said, the offset of the caret, and the mend: data[start:end] becomes `spelling`
 Guess = namedtuple("Guess", "said at start end spelling")
 
-# signs of other texts, the longer ones first, with what the workbench writes in their place
-SIGNS = (
-    ("\ufeff", "", "a byte order mark begins the file: save it without one"),
-    ("□", "box ", "`□` is written `box`"),
-    ("◇", "dia ", "`◇` is written `dia`"),
-    ("<>", "dia ", "`<>` is written `dia`"),
-    ("→", " -> ", "`→` is written `->`"),
-    ("⇒", " -> ", "`⇒` is written `->`"),
-    ("↔", " <-> ", "`↔` is written `<->`"),
-    ("⇔", " <-> ", "`⇔` is written `<->`"),
+# what is written in another way: a sign, what the workbench writes in its place, and what is said; the longer ones first
+WRITTEN = (
+    *((sign, " %s " % word, "`%s` is written `%s`" % (sign, word)) for sign, word in OURS.items() if sign != "[]"),
+    ("⇒", "->", "`⇒` is written `->`"),
+    ("⇔", "<->", "`⇔` is written `<->`"),
     ("≠", "!=", "`≠` is written `!=`"),
     ("≤", "<=", "`≤` is written `<=`"),
-    ("∧", " & ", "`∧` is written `&`"),
-    ("∨", " v ", "`∨` is written `v`"),
-    ("¬", "~", "`¬` is written `~`"),
-    ("⊤", "true", "`⊤` is written `true`"),
-    ("⊥", "false", "`⊥` is written `false`"),
     ("/\\", "&", "`/\\` is written `&`"),
     ("\\/", " v ", "`\\/` is written `v`"),
     ("//", "#", "a comment begins with `#`, and not with `//`"),
@@ -62,9 +54,14 @@ WORDS = {
 
 def sign_guesses(data, fault):
     at = fault.token.at
-    for sign, spelling, said in SIGNS:
+    for sign, spelling, said in WRITTEN:
         if data.startswith(sign.encode(), at):
             yield Guess(said, at, at, at + len(sign.encode()), spelling)
+
+
+def mark_guesses(data, _):
+    if data.startswith(BOM_UTF8):
+        yield Guess("a byte order mark begins the file: save it without one", 0, 0, 3, "")
 
 
 def longer_guesses(data, fault):
@@ -192,6 +189,7 @@ def open_text_guesses(data, fault):
 
 
 MAKERS = (
+    mark_guesses,
     sign_guesses,
     longer_guesses,
     box_guesses,

@@ -4,6 +4,7 @@ A guess is told only where the mended text has no fault, or its first one behind
 """
 
 import re
+from codecs import BOM_UTF8
 from collections import namedtuple
 
 from certificates.formulas import NoFormula, printed, spelled
@@ -168,7 +169,7 @@ def said_of(lines, line):
     """What is wrong in a line, from 1."""
     if lines[0] == b"certificate 2":
         return "version 2 isn't read: the first line is `certificate 1`"
-    if lines[0].startswith("\ufeff".encode()):
+    if lines[0].startswith(BOM_UTF8):
         return "a byte order mark begins the file: save it without one"
     if line == 1 and lines != [b""] and lines[0] != b"certificate 1\r":
         return "the first line is `certificate 1`"
