@@ -112,7 +112,7 @@ TOLD = [
     ("print interpolate(s5, p, p);", "fault: line 1: no interpolants s5", "there are no interpolants in `s5`: `interpolate` takes k, kt, s4 and gl", "s5"),
     ("print fixpoint(p, box p & (q -> ~p));", "fault: line 1: not modalised", "this `p` stands under no `box` and `dia`", "p));"),
     ("A := box p v p;\nprint fixpoint(p, A);", "fault: line 2: not modalised", "this `p` stands under no `box` and `dia`", "p;"),
-    ("A := p;\nA := box A;\nprint fixpoint(p, A);", "fault: line 3: not modalised", "each occurrence of the variable has to be under", None),
+    ("A := p;\nA := A & box p;\nprint fixpoint(p, A);", "fault: line 3: not modalised", "each occurrence of the variable has to be under", None),
     ("print fixpoint(p, A);", "fault: line 1: too many boxes 11", "there are 11 outermost modal subformulas", "fixpoint"),
     ("print goedel(p -> box q);", "fault: line 1: not intuitionistic box", "an intuitionistic formula has no `box`", "box"),
     ("print goedel(p <-> q);", "fault: line 1: not intuitionistic <->", "an intuitionistic formula has no `<->`", "<->"),
