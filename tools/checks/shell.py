@@ -14,7 +14,7 @@ import sys
 import tempfile
 import time
 
-from checks.launcher import Folder
+from checks.launcher import Folder, write
 from checks.report import TOP
 
 PROGRAM = os.path.join(TOP, "crates", "lw", "out", "lw")
@@ -74,6 +74,8 @@ TALKS = [
         1,
     ),
 ]
+# what a launcher tells of an unproved run
+TELLING = "#!/bin/sh\necho 'lw: UNPROVED: more' >&2\necho 'lw: other' >&2\nexit %d\n"
 # with the built program: what is entered and what is written
 REAL = [
     ("A := box p -> p;\nprint A;\nprint provable(k, A), provable(kt, A);\n", "box p -> p\nno yes\n"),
@@ -94,6 +96,18 @@ def talk(program, text, *words, **more):
 def check_talks(report, program):
     for text, written, told, status in TALKS:
         report.compare("the shell on %r" % text, (written, told, status), talk(program, text))
+
+
+def check_unproved(report, room):
+    """What the launcher tells of unproved runs is told once, and what it tells of a run that came to no end, each time."""
+    program = os.path.join(room, "telling")
+    write(program, TELLING % 0)
+    os.chmod(program, 0o755)
+    report.compare("the shell unproved", ("", "lw: UNPROVED: more\n", 0), talk(program, "print p; print p;"))
+    report.compare("the shell unproved, as was told", ("", "", 0), talk(program, "print p; print p;", "--unproved"))
+    write(program, TELLING % 70)
+    told = "lw: other\nshell: the run ended with status 70; the statement is left out\n"
+    report.compare("a run that came to no end", ("", told, 1), talk(program, "print p;", "--unproved"))
 
 
 def check_saved(report, program, room):
@@ -233,6 +247,7 @@ def check_all(report):
             file.write(STUB)
         os.chmod(program, 0o755)
         check_talks(report, program)
+        check_unproved(report, room)
         check_saved(report, program, room)
         check_ends(report, program)
         check_terminal(report, program)

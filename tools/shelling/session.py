@@ -20,6 +20,8 @@ run again with it; what it writes is shown, and one with a fault is left out. Li
 Ctrl-C stops a run, or drops a statement that isn't whole."""
 # the limit on time has as many digits at most
 DIGITS = 9
+# how the launcher's line on an unproved run begins
+UNPROVED = "lw: UNPROVED"
 
 
 def show(line):
@@ -58,14 +60,15 @@ class Session:
 
     `kept` holds the bytes of the statements that were carried out, each with a line feed behind it, and `written` counts
     the bytes that their run writes: a run of the same script writes the same. `rest` is the beginning of a statement.
-    `had_fault` tells whether anything that was entered was left out, `is_over` whether the shell is to end.
+    `had_fault` tells whether anything that was entered was left out, `is_over` whether the shell is to end, `told_unproved`
+    whether the user knows where runs are unproved.
     """
 
-    def __init__(self, command, limit):
+    def __init__(self, command, limit, told_unproved=False):
         self.command, self.limit = command, limit
         self.kept, self.written, self.rest = b"", 0, b""
         self.last_seconds, self.saved = None, set()
-        self.had_fault, self.is_over = False, False
+        self.had_fault, self.is_over, self.told_unproved = False, False, told_unproved
 
     def enter(self, line):
         """Takes a line of input, as bytes: a command, or a part of the script."""
@@ -104,6 +107,7 @@ class Session:
         output = Output(self.written)
         end = run(self.command, script, self.limit, output.take)
         self.last_seconds = end.seconds
+        self.tell_unproved(end)
         if end.status == 0:
             self.kept, self.written = script, output.count
             return
@@ -114,6 +118,13 @@ class Session:
         else:
             self.tell_end(end)
 
+    def tell_unproved(self, end):
+        """Passes on once what the launcher tells of each unproved run."""
+        lines = [line for line in end.told if line.startswith(UNPROVED)]
+        if lines and not self.told_unproved:
+            tell(lines[0])
+            self.told_unproved = True
+
     def tell_end(self, end):
         """Tells how a run ended that came to no end of its own."""
         if end.stopped == "late":
@@ -121,9 +132,8 @@ class Session:
         elif end.stopped:
             tell("shell: stopped; the statement is left out")
         else:
-            # the launcher's first word on unproved runs was said when the shell began
             for line in end.told:
-                if not line.startswith("lw: UNPROVED"):
+                if not line.startswith(UNPROVED):
                     tell(line)
             tell("shell: the run ended with status %d; the statement is left out" % end.status)
 
