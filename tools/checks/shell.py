@@ -108,6 +108,9 @@ def check_unproved(report, room):
     write(program, TELLING % 70)
     told = "lw: other\nshell: the run ended with status 70; the statement is left out\n"
     report.compare("a run that came to no end", ("", told, 1), talk(program, "print p;", "--unproved"))
+    write(program, "#!/bin/sh\nkill -9 $$\n")
+    told = "shell: the run ended by signal 9; the statement is left out\n"
+    report.compare("a run that is killed", ("", told, 1), talk(program, "print p;"))
 
 
 def check_saved(report, program, room):

@@ -135,7 +135,8 @@ class Session:
             for line in end.told:
                 if not line.startswith(UNPROVED):
                     tell(line)
-            tell("shell: the run ended with status %d; the statement is left out" % end.status)
+            how = "with status %d" % end.status if end.status >= 0 else "by signal %d" % -end.status
+            tell("shell: the run ended %s; the statement is left out" % how)
 
     def obey(self, word, more):
         commands = {
