@@ -113,6 +113,34 @@ def check_unproved(report, room):
     report.compare("a run that is killed", ("", told, 1), talk(program, "print p;"))
 
 
+def is_gone(process):
+    """Whether there is no process of this number before long."""
+    until = time.monotonic() + PATIENCE
+    while time.monotonic() < until:
+        try:
+            os.kill(process, 0)
+        except ProcessLookupError:
+            return True
+        time.sleep(0.05)
+    return False
+
+
+def check_signals(report, room):
+    """Where the shell is ended, so is what it runs."""
+    program = os.path.join(room, "waiting")
+    write(program, "#!/bin/sh\necho $$\nexec sleep 60\n")
+    os.chmod(program, 0o755)
+    for number in (signal.SIGTERM, signal.SIGHUP):
+        command = [os.path.join(TOP, "tools", "shell"), "--program", program]
+        with subprocess.Popen(command, stdin=subprocess.PIPE, stdout=subprocess.PIPE) as shell:
+            shell.stdin.write(b"print p;\n")
+            shell.stdin.flush()
+            running = int(shell.stdout.readline())
+            shell.send_signal(number)
+            report.compare("the shell after signal %d" % number, 128 + number, shell.wait(PATIENCE))
+        report.check("its run after signal %d" % number, is_gone(running))
+
+
 def check_saved(report, program, room):
     """A file that is there stays, but for one that the same shell wrote."""
     path = os.path.join(room, "saved.lw")
@@ -251,6 +279,7 @@ def check_all(report):
         os.chmod(program, 0o755)
         check_talks(report, program)
         check_unproved(report, room)
+        check_signals(report, room)
         check_saved(report, program, room)
         check_ends(report, program)
         check_terminal(report, program)
