@@ -64,6 +64,8 @@ TALKS = [
     ),
     (":seconds\n:seconds 3\n:seconds\n:time", "10 seconds\n3 seconds\nnothing was run yet\n", "", 0),
     (":seconds 0", "", "shell: :seconds takes a whole number of seconds from 1 on: `:seconds 60`\n", 1),
+    (":seconds 1000000000", "", "shell: :seconds takes a whole number of seconds from 1 on: `:seconds 60`\n", 1),
+    (":seconds 999999999\nprint p;", "", "", 0),
     (":shw", "", "shell: :shw is no command; the commands are :show, :time, :seconds, :save, :help, :quit\n", 1),
     (":save", "", "shell: :save takes the name of a file: `:save lesson.lw`\n", 1),
     (":save /nosuch/file", "", "shell: /nosuch/file can't be written: No such file or directory\n", 1),
@@ -153,7 +155,9 @@ def check_saved(report, program, room):
 
 
 def check_ends(report, program):
-    """No input, and no program."""
+    """No input, no program, and no number."""
+    for word in ("0", "01", "x", "1000000000"):
+        report.compare("the shell with --seconds %s" % word, ("", 2), talk(program, ":seconds\n", "--seconds", word)[::2])
     command = [os.path.join(TOP, "tools", "shell"), "--program", program]
     closed = subprocess.run(command, stderr=subprocess.PIPE, text=True, preexec_fn=lambda: os.close(0))
     wanted = ("shell: standard input can't be read: it is closed\n", 3)

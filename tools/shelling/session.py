@@ -1,6 +1,7 @@
 """What was entered at a prompt: the statements that were carried out, and the commands that begin with a colon."""
 
 import os
+import re
 import sys
 
 from explaining import faults
@@ -22,6 +23,13 @@ Ctrl-C stops a run, or drops a statement that isn't whole."""
 DIGITS = 9
 # how the launcher's line on an unproved run begins
 UNPROVED = "lw: UNPROVED"
+
+
+def seconds_of(word):
+    """The number of seconds that a word names, from 1 on and without leading zeros; raises ValueError."""
+    if re.fullmatch("[1-9][0-9]{0,%d}" % (DIGITS - 1), word) is None:
+        raise ValueError
+    return int(word)
 
 
 def show(line):
@@ -166,9 +174,10 @@ class Session:
     def set_limit(self, more):
         if not more:
             show("%d seconds" % self.limit)
-        elif more.isascii() and more.isdigit() and len(more) <= DIGITS and not more.startswith("0"):
-            self.limit = int(more)
-        else:
+            return
+        try:
+            self.limit = seconds_of(more)
+        except ValueError:
             self.complain(":seconds takes a whole number of seconds from 1 on: `:seconds 60`")
 
     def save(self, more):
