@@ -150,6 +150,8 @@ def check_saved(report, program, room):
     talk(program, text)
     with open(path, encoding="utf-8") as file:
         report.compare("what the shell saves", 'print "a";\nprint "b";\n', file.read())
+    narrow = talk(program, "print p # \u25a1\n;\n:show\n", env=dict(os.environ, PYTHONIOENCODING="ascii"))
+    report.compare("a letter that can't be shown", ("    1 | print p # ?\n    2 | ;\n", "", 0), narrow)
     told = talk(program, ":save %s\n" % path)[1]
     report.compare("saving over another's file", "shell: %s can't be written: File exists\n" % path, told)
 
