@@ -3,20 +3,8 @@
 import re
 from collections import namedtuple
 
-# what textbooks write, and what the workbench does
-OURS = {
-    "□": "box",
-    "[]": "box",
-    "◇": "dia",
-    "<>": "dia",
-    "→": "->",
-    "↔": "<->",
-    "∧": "&",
-    "∨": "v",
-    "¬": "~",
-    "⊤": "true",
-    "⊥": "false",
-}
+from common.signs import OURS
+
 OWN = ("<->", "->", "~", "&", "(", ")")
 # those of scripts and of other texts, so that a mistake is told of by the whole sign
 OTHER = (":=", "==", "!=", "<=", "<=>", "=>", "&&", "||", "/\\", "\\/", "//")
