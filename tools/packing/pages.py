@@ -1,9 +1,9 @@
 """The manual pages: which document, or which part of one, each of them is."""
 
-import datetime
 import os
 import re
 
+from common.inputs import text_of as text_of_file
 from packing import roff
 from packing.markdown import Unknown, blocks
 
@@ -38,14 +38,14 @@ def seen_from_below(text, folder):
     return re.sub(r"\]\((?!https?:)", "](%s/" % folder, text) if folder else text
 
 
-def text_of(page, top, date, version):
-    """The text of a manual page, from the document in the folder `top`; the date is in seconds. Raises Unknown and OSError."""
+def text_of(page, top, day="", source=""):
+    """The text of a manual page, from the document in the folder `top`; its foot tells the day and of what it is. Raises
+    Unknown and Unread.
+    """
     name, section, document, heading, purpose = page
-    with open(os.path.join(top, document), encoding="utf-8") as file:
-        found = blocks(seen_from_below(file.read(), os.path.dirname(document)))
-    day = datetime.datetime.fromtimestamp(date, datetime.timezone.utc).strftime("%Y-%m-%d")
-    words = [name.upper(), str(section), day, "fidortzu " + version, "Fidortzu"]
-    lines = ["'\\\" t", ".TH " + " ".join('"%s"' % roff.plain(word) for word in words), ".nh", ".ad l"]
+    found = blocks(seen_from_below(text_of_file(os.path.join(top, document)), os.path.dirname(document)))
+    words = [name.upper(), str(section), day, source, "Fidortzu"]
+    lines = ["'\\\" t", ".TH " + " ".join('"%s"' % roff.plain(word) for word in words), ".nr HY 0", ".nh", ".ad l"]
     lines += [".SH NAME", "%s \\- %s" % (roff.plain(name), roff.plain(purpose)), ".SH DESCRIPTION"]
     lines += roff.lines(part_of(found, heading) if heading else found)
     lines += [".SH NOTES", *roff.paragraph(NOTE)]

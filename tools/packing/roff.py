@@ -2,8 +2,8 @@
 
 import re
 
-WIDTH = 66
-LEAST = 8
+WIDTH = 70
+GAP = 2
 SIGNS = {"\\": "\\e", "-": "\\-", "~": "\\(ti", "^": "\\(ha", "'": "\\(aq", "`": "\\(ga", '"': "\\(dq"}
 MARKUP = re.compile(r"`([^`]*)`|\*\*(.+?)\*\*|\*([^*]+)\*|\[([^\]]*)\]\(([^)]*)\)")
 
@@ -43,28 +43,30 @@ def line(written):
     return "\\&" + written if written.startswith((".", "'")) else written
 
 
-def shown_length(cell):
-    """The number of signs that are shown of a cell."""
-    return len(MARKUP.sub(lambda match: next(word for word in match.groups() if word is not None), cell))
+def shown(cell):
+    """The signs that are shown of a cell."""
+    return MARKUP.sub(lambda match: next(word for word in match.groups() if word is not None), cell)
 
 
 def widths(rows):
-    """The width of each column in letters: that of its longest cell, or less where the page is too narrow for all."""
-    wanted = [max(LEAST, *map(shown_length, column)) for column in zip(*rows)]
-    room = WIDTH - 3 * (len(wanted) - 1)
-    shares = dict(enumerate(wanted))
-    for left, column in zip(range(len(wanted), 0, -1), sorted(shares, key=shares.get)):
-        shares[column] = min(shares[column], max(LEAST, room // left))
-        room -= shares[column]
-    return [shares[column] for column in range(len(wanted))]
+    """The width of each column in letters: that of its longest cell, or less where the page is too narrow for all, but never
+    less than its longest word.
+    """
+    columns = [[shown(cell) for cell in column] for column in zip(*rows)]
+    least = [max(len(word) for cell in column for word in cell.split() or [""]) for column in columns]
+    shares = [max(map(len, column)) for column in columns]
+    while sum(shares) + GAP * (len(shares) - 1) > WIDTH and shares != least:
+        widest = max((share, at) for at, share in enumerate(shares) if share > least[at])[1]
+        shares[widest] -= 1
+    return shares
 
 
 def table(rows):
     """A table, its head in bold letters, each cell a text that is broken within its column."""
-    columns = " ".join("lw(%dn)" % width for width in widths(rows))
-    head = columns.replace("lw", "lbw")
+    head, body = ((" %d " % GAP).join("%s(%dn)" % (key, width) for width in widths(rows)) for key in ("lbw", "lw"))
     cells = ["\t".join("T{\n%s\nT}" % line(inline(cell) or "\\&") for cell in row) for row in rows]
-    return [".TS", "tab(\t);", head, columns + ".", *cells, ".TE"]
+    # nokeep: a page on a screen has no end that a row could run over
+    return [".TS", "nokeep tab(\t);", head, body + ".", *cells, ".TE"]
 
 
 def heading(content):
