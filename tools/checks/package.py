@@ -81,7 +81,7 @@ end
 
 
 def run(words, **more):
-    done = subprocess.run(words, stdin=subprocess.DEVNULL, stdout=subprocess.PIPE, stderr=subprocess.PIPE, text=True, check=False, **more)
+    done = subprocess.run(words, stdin=subprocess.DEVNULL, capture_output=True, text=True, check=False, **more)
     return done.stdout, done.stderr, done.returncode
 
 
@@ -176,7 +176,8 @@ def check_made(report, sample, room, commit):
     report.check("package: the same bytes each time", bytes_in(first) == bytes_in(second))
     written, told, status = sample.package(third, env=without_dpkg(room))
     report.compare("package without dpkg-deb", ("package: dpkg-deb isn't installed, so no .deb was made\n", 0), (told, status))
-    report.compare("package without dpkg-deb: its file", [name for name in os.listdir(first) if name.endswith(".gz")], os.listdir(third))
+    alone = [name for name in os.listdir(first) if name.endswith(".gz")]
+    report.compare("package without dpkg-deb: its file", alone, os.listdir(third))
     return first
 
 
@@ -199,7 +200,8 @@ def check_installed(report, sample, launcher, kind, commit):
         more = dict(cwd=empty, env=sample.environment)
         report.compare("%s: lw run" % kind, ("run x\n", "", 0), run([launcher, "run", "x"], **more))
         report.compare("%s: lw build" % kind, ("", INSTALLED, 0), run([launcher, "build"], **more))
-        report.compare("%s: lw --version" % kind, ("sample kit\ncommit %s\n" % commit, "", 0), run([launcher, "--version"], **more))
+        version = "sample kit\ncommit %s\n" % commit
+        report.compare("%s: lw --version" % kind, (version, "", 0), run([launcher, "--version"], **more))
     folder = os.path.dirname(os.path.realpath(launcher))
     tools = [path for path in glob.glob(os.path.join(folder, "tools", "*")) if os.path.isfile(path)]
     report.check("%s: tools" % kind, {"show", "explain", "check-certificate"} < set(map(os.path.basename, tools)), tools)
@@ -211,8 +213,8 @@ def check_links(report, place, kind):
     """Each link of an unpacked package leads to what is in it, or there is none."""
     paths = [os.path.join(folder, name) for folder, below, names in os.walk(place) for name in below + names]
     led = [os.path.realpath(path) for path in paths if os.path.islink(path)]
-    report.compare("%s: links" % kind, kind == ".deb", bool(led))
-    report.compare("%s: links to nothing" % kind, [], [path for path in led if not os.path.exists(path) or not path.startswith(os.path.realpath(place))])
+    astray = [path for path in led if not (os.path.exists(path) and path.startswith(os.path.realpath(place)))]
+    report.compare("%s: links" % kind, (kind == ".deb", []), (bool(led), astray))
 
 
 def check_sample(report, room):
@@ -227,7 +229,8 @@ def check_sample(report, room):
     report.check("an installed program needs no kit", not os.path.exists(sample.kit_ran))
     sample.write("README.md", text_of("README.md") + "\nMore.\n")
     written = sample.package(os.path.join(room, "changed"))[0]
-    report.check("package: changes since the commit are told", written and all(".changed" in name for name in written.splitlines()), written)
+    told = [".changed" in name for name in written.splitlines()]
+    report.check("package: changes since the commit are told", told and all(told), written)
 
 
 def check_examples(report, room):
@@ -239,11 +242,15 @@ def check_examples(report, room):
         return
     report.compare("package of this program", 0, status)
     for kind, _, launcher in unpacked(folder, room):
-        examples = os.path.join(os.path.dirname(os.path.realpath(launcher)), "examples")
-        for name in EXAMPLES:
-            with tempfile.TemporaryDirectory() as empty:
-                written = run([launcher, name.split("/")[0], os.path.join(examples, name + ".txt")], cwd=empty)
-            report.compare("%s: %s" % (kind, name), (text_of("examples/%s.expected" % name), "", 0), written)
+        run_examples(report, launcher, kind)
+
+
+def run_examples(report, launcher, kind):
+    examples = os.path.join(os.path.dirname(os.path.realpath(launcher)), "examples")
+    for name in EXAMPLES:
+        with tempfile.TemporaryDirectory() as empty:
+            written = run([launcher, name.split("/")[0], os.path.join(examples, name + ".txt")], cwd=empty)
+        report.compare("%s: %s" % (kind, name), (text_of("examples/%s.expected" % name), "", 0), written)
 
 
 def part_of(document, heading):

@@ -73,21 +73,29 @@ def write_file(path, data, mode):
     os.chmod(path, mode)
 
 
+def write_link(path, target):
+    os.makedirs(os.path.dirname(path), exist_ok=True)
+    os.symlink(target, path)
+
+
 def write_tree(tree, room, date):
-    """Writes the tree below a folder, with the modes and times that it is to have."""
+    """Writes the tree into a folder, with the modes and times that it is to have."""
     for path, (data, is_program) in tree.files.items():
         write_file(os.path.join(room, path), data, 0o755 if is_program else 0o644)
-    for path, target in tree.links.items():
-        os.makedirs(os.path.join(room, os.path.dirname(path)), exist_ok=True)
-        os.symlink(os.path.relpath(target, os.path.dirname(path)), os.path.join(room, path))
-    for folder, _, _ in os.walk(room, topdown=False):
-        os.chmod(folder, 0o755)
+    write_links(tree.links, room)
     settle(room, date)
 
 
+def write_links(links, room):
+    """Writes links that lead from their folder to their targets, wherever the tree stands."""
+    for path, target in links.items():
+        write_link(os.path.join(room, path), os.path.relpath(target, os.path.dirname(path)))
+
+
 def settle(room, date):
-    """Gives all below a folder, and itself, the time."""
+    """Gives all in a folder, and itself, the time; and each folder its mode, whatever the process gives a new one."""
     for folder, _, names in os.walk(room, topdown=False):
+        os.chmod(folder, 0o755)
         set_times([os.path.join(folder, name) for name in names] + [folder], date)
 
 

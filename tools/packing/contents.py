@@ -94,16 +94,19 @@ def loose_tree(origin):
     return tree
 
 
+def editor_links(names):
+    """Links by which Vim finds those of the folder's files that are for it, with their targets."""
+    ours = [name for name in names if name.startswith(VIM)]
+    return {"usr/share/vim/vimfiles/" + name[len(VIM) :]: "%s/%s" % (LIBRARY, name) for name in ours}
+
+
 def system_tree(origin):
     """The folder in its place in a system, with links to what is looked for elsewhere, and the manual pages in theirs; raises as
     loose_tree does.
     """
     folder = folder_tree(origin)
     tree = folder.below(LIBRARY)
-    tree.links = dict(LINKS)
-    for name in folder.files:
-        if name.startswith(VIM):
-            tree.links["usr/share/vim/vimfiles/" + name[len(VIM) :]] = "%s/%s" % (LIBRARY, name)
+    tree.links = dict(LINKS, **editor_links(folder.files))
     for name, section, text in manual_pages(origin):
         tree.put("usr/share/man/man%d/%s.gz" % (section, name), gzip.compress(text, mtime=0))
     return tree

@@ -40,7 +40,8 @@ class Origin:
         self.lines = written(top, os.path.join(top, "lw"), "--version")
         if self.lines.startswith(NOT_BUILT):
             raise Refused(NOT_BUILT + "; ./lw build builds it")
-        commit, date, self.maintainer = written(top, "git", "show", "-s", "--abbrev=12", "--format=%h %ct %cn <%ce>", "HEAD").strip().split(" ", 2)
+        told = written(top, "git", "show", "-s", "--abbrev=12", "--format=%h %ct %cn <%ce>", "HEAD")
+        commit, date, self.maintainer = told.strip().split(" ", 2)
         self.date = int(date)
         changed = ".changed" if written(top, "git", "status", "--porcelain", "--untracked-files=no") else ""
         self.version = "0.%s+%s%s" % (self.moment("%Y%m%d.%H%M%S"), commit, changed)
