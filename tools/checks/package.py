@@ -17,6 +17,7 @@ import tempfile
 from checks.launcher import COMMANDS
 from checks.report import TOP, text_of
 from packing import roff
+from packing.contents import FOR_SOURCES
 from packing.markdown import Unknown, blocks
 from packing.pages import PAGES, file_name
 from packing.pages import text_of as page_of
@@ -218,6 +219,8 @@ def check_links(report, place, kind):
 
 
 def check_sample(report, room):
+    gone = [name for name in FOR_SOURCES if not os.path.exists(os.path.join(TOP, "tools", name))]
+    report.compare("package: what is left out is there", [], gone)
     sample = Sample(room)
     commit = check_refusals(report, sample, room)
     made = check_made(report, sample, room, commit)
