@@ -7,10 +7,10 @@ import tempfile
 
 from checks.report import TOP
 
-FILES = ["Modal.v", "Calculus.v", "Sound.v", "Examples.v"]
-THEOREMS = ["check_sound"]
+FILES = ["Modal.v", "Tables.v", "Calculus.v", "Sound.v", "Models.v", "Numbered.v", "Examples.v"]
+THEOREMS = ["check_sound", "refutes_sound", "check_numbered_sound"]
 AXIOMS = {"Classical_Prop.classic"}
-QUESTIONS = "Require Import Modal Calculus Sound.\n%s"
+QUESTIONS = "Require Import Modal Calculus Sound Models Numbered.\n%s"
 SECONDS = 60
 
 
