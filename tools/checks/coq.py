@@ -1,22 +1,52 @@
-"""Whether Coq accepts the development of tools/coq, and from which axioms; skipped, saying so, where there is no coqc."""
+"""Whether Coq accepts the development of tools/coq, and from which axioms, and makes theorems of the certificates of
+examples/check that are accepted, and of no others; skipped, saying so, where there is no coqc."""
 
+import collections
+import concurrent.futures
+import glob
 import os
+import re
 import shutil
 import subprocess
 import tempfile
 
+from certificates.formulas import formula
+from certificates.judge import verdict
+from certificates.texts import read
 from checks.report import TOP
+from theorems.files import theorem
 
 FILES = ["Modal.v", "Tables.v", "Calculus.v", "Sound.v", "Models.v", "Numbered.v", "Examples.v"]
-THEOREMS = ["check_sound", "refutes_sound", "check_numbered_sound"]
-AXIOMS = {"Classical_Prop.classic"}
-QUESTIONS = "Require Import Modal Calculus Sound Models Numbered.\n%s"
-SECONDS = 60
+AXIOMS = {"check_sound": {"Classical_Prop.classic"}, "refutes_sound": set(), "check_numbered_sound": {"Classical_Prop.classic"}}
+QUESTION = "Require Import Modal Calculus Sound Models Numbered.\nPrint Assumptions %s.\n"
+MOST_LINES = 900
+SECONDS = 120
+
+# by hand, in the logics that docs/CERTIFICATES.md doesn't have yet: the formula, the steps, and whether they prove it
+STEPS = [
+    ("kd", b"box p -> dia p", [("one", "F", b"box p -> dia p"), ("serial", "T", b"box p"), ("close", "T", b"p")], True),
+    ("k", b"box p -> dia p", [("one", "F", b"box p -> dia p"), ("serial", "T", b"box p"), ("close", "T", b"p")], False),
+    ("k4", b"box p -> box box p", [("one", "F", b"box p -> box box p"), ("step", "F", b"box box p"), ("close", "T", b"box p")], True),
+    ("kd", b"box p -> box box p", [("one", "F", b"box p -> box box p"), ("step", "F", b"box box p"), ("close", "T", b"box p")], False),
+]
+# the same for models: the worlds that each sees, and its variables
+MODELS = [
+    ("kd", b"box p -> p", ([[1], [1]], [set(), {"p"}], 0), True),
+    ("kd", b"box p -> p", ([[1], []], [set(), {"p"}], 0), False),
+    ("k4", b"box p -> p", ([[1], []], [set(), {"p"}], 0), True),
+    ("k4", b"box p -> box box p", ([[1], [2], []], [set(), {"p"}, set()], 0), False),
+]
+
+Run = collections.namedtuple("Run", "status written told")
 
 
 def compiled(folder, name):
-    """The ended run of coqc on a file of a folder."""
-    return subprocess.run(["coqc", name], cwd=folder, capture_output=True, text=True, timeout=SECONDS)
+    """The ended run of coqc on a file of a folder; where it takes too long, that is told, and the status is None."""
+    try:
+        run = subprocess.run(["coqc", name], cwd=folder, capture_output=True, text=True, timeout=SECONDS)
+    except subprocess.TimeoutExpired:
+        return Run(None, "", "ended after %d seconds" % SECONDS)
+    return Run(run.returncode, run.stdout, run.stderr.strip())
 
 
 def axioms_of(written):
@@ -29,25 +59,80 @@ def axioms_of(written):
     return {line.split()[0] for line in lines[1:] if line.strip() and not line.startswith(" ")}
 
 
+def write(folder, name, text):
+    with open(os.path.join(folder, name), "w", encoding="utf-8") as file:
+        file.write(text)
+
+
 def check_axioms(report, folder):
-    for theorem in THEOREMS:
-        with open(os.path.join(folder, "Asked.v"), "w", encoding="utf-8") as file:
-            file.write(QUESTIONS % ("Print Assumptions %s.\n" % theorem))
+    for law, axioms in AXIOMS.items():
+        write(folder, "Asked.v", QUESTION % law)
         run = compiled(folder, "Asked.v")
-        report.compare("coqc, asked for the axioms of %s, ends" % theorem, 0, run.returncode)
-        if run.returncode == 0:
-            report.compare("the axioms of %s" % theorem, AXIOMS, axioms_of(run.stdout))
+        report.check("coqc, asked for the axioms of %s, ends" % law, run.status == 0, run.told)
+        if run.status == 0:
+            report.compare("the axioms of %s" % law, axioms, axioms_of(run.written))
+
+
+def examples():
+    """Each certificate of examples/check with its name, and whether it is accepted."""
+    for path in sorted(glob.glob(os.path.join(TOP, "examples", "check", "*.txt"))):
+        with open(path, "rb") as file:
+            data = file.read()
+        line = verdict(data)[0]
+        if not line.startswith("fault"):
+            yield os.path.basename(path), read(data), line == "accepted"
+
+
+def by_hand():
+    for logic, text, steps, holds in STEPS:
+        body = [(rule, (sign, formula(principal))) for rule, sign, principal in steps]
+        yield "%s, proof of %s" % (logic, text.decode()), (logic, formula(text), body), holds
+    for logic, text, model, holds in MODELS:
+        yield "%s, model for %s" % (logic, text.decode()), (logic, formula(text), model), holds
+
+
+def answer_of(run, lines):
+    """What coqc says of a theorem: `accepted`, or the line that it refuses and why."""
+    place = re.match(r'File "[^"]*", line ([0-9]+), ', run.told)
+    if run.status != 1 or place is None:
+        return "accepted" if run.status == 0 else run.told
+    why = "computes to false" if 'Unable to unify "true" with "false"' in re.sub(r"\s+", " ", run.told) else run.told
+    return "%s: %s" % (lines[int(place.group(1)) - 1].strip(), why)
+
+
+def check_theorems(report, folder):
+    """Each certificate has a file of its own; they are compiled beside one another."""
+    wanted = list(examples()) + list(by_hand())
+    texts = [theorem(certificate) for _, certificate, _ in wanted]
+    names = ["Answer%d.v" % count for count in range(len(wanted))]
+    for name, lines in zip(names, texts):
+        write(folder, name, "".join(line + "\n" for line in lines))
+    with concurrent.futures.ThreadPoolExecutor(os.cpu_count()) as pool:
+        runs = list(pool.map(lambda name: compiled(folder, name), names))
+    for (what, _, holds), lines, run in zip(wanted, texts, runs):
+        right = "accepted" if holds else "vm_compute; reflexivity.: computes to false"
+        report.compare("coqc on the theorem of %s" % what, right, answer_of(run, lines))
+
+
+def check_lengths(report):
+    count = 0
+    for name in FILES:
+        with open(os.path.join(TOP, "tools", "coq", name), encoding="utf-8") as file:
+            count += len(file.readlines())
+    report.check("tools/coq has under %d lines" % MOST_LINES, count < MOST_LINES, str(count))
 
 
 def check_all(report):
+    check_lengths(report)
     if shutil.which("coqc") is None:
-        print("tools: tools/coq is not compiled: there is no coqc (Debian's package coq)")
+        print("tools: tools/coq and its theorems are not compiled: there is no coqc (Debian's package coq)")
         return
     with tempfile.TemporaryDirectory() as folder:
         for name in FILES:
             shutil.copy(os.path.join(TOP, "tools", "coq", name), folder)
             run = compiled(folder, name)
-            report.check("coqc accepts %s" % name, run.returncode == 0, run.stderr.strip())
-            if run.returncode != 0:
+            report.check("coqc accepts %s" % name, run.status == 0, run.told)
+            if run.status != 0:
                 return
         check_axioms(report, folder)
+        check_theorems(report, folder)

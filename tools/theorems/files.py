@@ -11,18 +11,29 @@ RULES = {
 }
 SIGNS = {"T": "yes", "F": "no"}
 GUARDED = {"k": False, "kt": False, "k4": False, "kd": False, "s4": False, "s5": False, "gl": False, "grz": True}
+# how many items of a list stand in one piece
+PIECE = 1000
 HEAD = ["Require Import Modal Models Numbered.", "Require Import List PArith.", "Import ListNotations.", "Open Scope positive_scope."]
 
 
-def listed(items):
+def bracketed(items):
     """The lines of a list of Coq, an item a line."""
-    return ["["] + ["    " + item + ";" for item in items[:-1]] + ["    " + item for item in items[-1:]] + ["  ]"]
+    return ["["] + ["    %s;" % item for item in items[:-1]] + ["    %s" % item for item in items[-1:]] + ["  ]"]
 
 
-def field(name, items):
-    """The lines of a field of a record that is a list."""
-    first, *rest = listed(items)
-    return ["  %s := %s" % (name, first)] + rest[:-1] + [rest[-1] + ";"]
+def defined_list(name, kind, items):
+    """The lines that define a list, in pieces, since coqc reads a list by recursion over its length."""
+    pieces = [items[at : at + PIECE] for at in range(0, len(items), PIECE)]
+    lines = []
+    for count, piece in enumerate(pieces, 1):
+        lines += define("%s%d" % (name, count), "list %s" % kind, bracketed(piece))
+    joined = " ++ ".join("%s%d" % (name, count) for count in range(1, len(pieces) + 1))
+    return lines + define(name, "list %s" % kind, [joined or "[]"])
+
+
+def define(name, kind, lines):
+    head = "Definition %s : %s :=" % (name, kind)
+    return ["%s %s" % (head, lines[0])] + lines[1:-1] + ["%s." % lines[-1]] if len(lines) > 1 else ["%s %s." % (head, lines[0])]
 
 
 def guards_of(logic, steps, table):
@@ -39,8 +50,12 @@ def proof_lines(logic, goal, steps, variables):
     number = table.number(goal)
     lines = ["(%s, %s %d)" % (RULES[rule], SIGNS[sign], table.number(a)) for rule, (sign, a) in steps]
     guards = guards_of(logic, steps, table)
-    fields = field("table", table.rows) + field("guard_pairs", guards) + ["  goal := %d;" % number] + field("lines", lines)
-    return ["Definition shown : numbered_proof := {|"] + fields + ["|}."]
+    return (
+        defined_list("rows", "form", table.rows)
+        + defined_list("guards", "(positive * positive)", guards)
+        + defined_list("steps", "(rule * positive)", lines)
+        + ["Definition shown : numbered_proof := Numbered rows guards %d steps." % number]
+    )
 
 
 def model_lines(model, variables):
@@ -50,7 +65,7 @@ def model_lines(model, variables):
         "([%s], [%s])" % ("; ".join(str(v + 1) for v in seen), "; ".join(str(variables.number(name)) for name in sorted(names)))
         for seen, names in zip(sees, facts)
     ]
-    return ["Definition shown : finite :="] + ["  " + listed(rows)[0]] + listed(rows)[1:-1] + ["  ]."]
+    return defined_list("shown", "(list positive * list positive)", rows)
 
 
 def definitions(certificate):
