@@ -1,26 +1,22 @@
 """Whether Coq accepts the development of tools/coq, and from which axioms, and makes theorems of the certificates of
 examples/check that are accepted, and of no others; skipped, saying so, where there is no coqc."""
 
-import collections
 import concurrent.futures
 import glob
 import os
 import re
-import shutil
-import subprocess
 import tempfile
 
 from certificates.formulas import formula
 from certificates.judge import verdict
 from certificates.texts import read
 from checks.report import TOP, text_of
+from theorems.coqc import FILES, compiled, develop, is_there, write
 from theorems.files import theorem
 
-FILES = ["Modal.v", "Tables.v", "Calculus.v", "Sound.v", "Models.v", "Numbered.v", "Examples.v"]
 AXIOMS = {"check_sound": {"Classical_Prop.classic"}, "refutes_sound": set(), "check_numbered_sound": {"Classical_Prop.classic"}}
-QUESTION = "Require Import Modal Calculus Sound Models Numbered.\nPrint Assumptions %s.\n"
+QUESTION = "Require Import Modal Calculus Sound Models Numbered.\nPrint Assumptions %s."
 MOST_LINES = 900
-SECONDS = 120
 
 # by hand, in the logics that docs/CERTIFICATES.md doesn't have yet: the formula, the steps, and whether they prove it
 STEPS = [
@@ -37,17 +33,6 @@ MODELS = [
     ("k4", b"box p -> box box p", ([[1], [2], []], [set(), {"p"}, set()], 0), False),
 ]
 
-Run = collections.namedtuple("Run", "status written told")
-
-
-def compiled(folder, name):
-    """The ended run of coqc on a file of a folder; where it takes too long, that is told, and the status is None."""
-    try:
-        run = subprocess.run(["coqc", name], cwd=folder, capture_output=True, text=True, timeout=SECONDS)
-    except subprocess.TimeoutExpired:
-        return Run(None, "", "ended after %d seconds" % SECONDS)
-    return Run(run.returncode, run.stdout, run.stderr.strip())
-
 
 def axioms_of(written):
     """The names in an answer of Print Assumptions, whose lines after the first are `name : type`, or indented ones."""
@@ -59,14 +44,9 @@ def axioms_of(written):
     return {line.split()[0] for line in lines[1:] if line.strip() and not line.startswith(" ")}
 
 
-def write(folder, name, text):
-    with open(os.path.join(folder, name), "w", encoding="utf-8") as file:
-        file.write(text)
-
-
 def check_axioms(report, folder):
     for law, axioms in AXIOMS.items():
-        write(folder, "Asked.v", QUESTION % law)
+        write(folder, "Asked.v", [QUESTION % law])
         run = compiled(folder, "Asked.v")
         report.check("coqc, asked for the axioms of %s, ends" % law, run.status == 0, run.told)
         if run.status == 0:
@@ -106,7 +86,7 @@ def check_theorems(report, folder):
     texts = [theorem(certificate) for _, certificate, _ in wanted]
     names = ["Answer%d.v" % count for count in range(len(wanted))]
     for name, lines in zip(names, texts):
-        write(folder, name, "".join(line + "\n" for line in lines))
+        write(folder, name, lines)
     with concurrent.futures.ThreadPoolExecutor(os.cpu_count()) as pool:
         runs = list(pool.map(lambda name: compiled(folder, name), names))
     for (what, _, holds), lines, run in zip(wanted, texts, runs):
@@ -114,24 +94,28 @@ def check_theorems(report, folder):
         report.compare("coqc on the theorem of %s" % what, right, answer_of(run, lines))
 
 
+def code_lines(text):
+    """How many lines a text of Coq has, empty lines and comments aside."""
+    return sum(1 for line in re.sub(r"\(\*.*?\*\)", "", text, flags=re.DOTALL).splitlines() if line.strip())
+
+
 def check_lengths(report):
-    count = 0
-    for name in FILES:
-        count += sum(1 for line in text_of("tools/coq/" + name).splitlines() if line.strip())
+    """The development is short, and README.md tells how much of it one has to believe."""
+    texts = {name: text_of("tools/coq/" + name) for name in FILES}
+    count = sum(1 for text in texts.values() for line in text.splitlines() if line.strip())
     report.check("tools/coq has under %d lines, empty lines aside" % MOST_LINES, count < MOST_LINES, str(count))
+    told = "the %d lines of `tools/coq/Modal.v`, empty lines and comments aside" % code_lines(texts["Modal.v"])
+    report.check("README.md tells %r" % told, told in text_of("README.md"))
 
 
 def check_all(report):
     check_lengths(report)
-    if shutil.which("coqc") is None:
+    if not is_there():
         print("tools: tools/coq and its theorems are not compiled: there is no coqc (Debian's package coq)")
         return
     with tempfile.TemporaryDirectory() as folder:
-        for name in FILES:
-            shutil.copy(os.path.join(TOP, "tools", "coq", name), folder)
-            run = compiled(folder, name)
+        for name, run in develop(folder):
             report.check("coqc accepts %s" % name, run.status == 0, run.told)
-            if run.status != 0:
-                return
-        check_axioms(report, folder)
-        check_theorems(report, folder)
+        if run.status == 0:
+            check_axioms(report, folder)
+            check_theorems(report, folder)
