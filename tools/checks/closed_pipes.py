@@ -7,12 +7,13 @@ from checks.report import TOP
 
 CERTIFICATE = "examples/check/loeb-in-gl.txt"
 FORMULA = "examples/from-other/dfg/box-and-dia.dfg"
-READERS = (("check-certificate",), ("show",), ("from-other", "dfg"), ("explain", "--check"))
+READERS = (("check-certificate",), ("show",), ("to-coq",), ("from-other", "dfg"), ("explain", "--check"))
 WRITERS = (
     ("check-certificate", CERTIFICATE),
     ("check-certificate", "--all", CERTIFICATE, CERTIFICATE),
     ("check-certificate", "--json", CERTIFICATE),
     ("show", CERTIFICATE),
+    ("to-coq", CERTIFICATE),
     ("from-other", "dfg", FORMULA),
     ("trusted-reading", "--total"),
     ("ask", "k", "p"),
