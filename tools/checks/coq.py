@@ -117,5 +117,6 @@ def check_all(report):
         for name, run in develop(folder):
             report.check("coqc accepts %s" % name, run.status == 0, run.told)
         if run.status == 0:
+            report.compare("coqc that takes too long", None, compiled(folder, "Sound.v", 0.01).status)
             check_axioms(report, folder)
             check_theorems(report, folder)

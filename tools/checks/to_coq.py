@@ -64,6 +64,14 @@ Qed.
 """
 
 
+# a shared formula within a shared one
+NESTED = "certificate 1\nlogic k\nformula box(box p & q) & box(box p & q) & box p\nproof\nclose T p\nend\n"
+NESTED_LINES = """Definition f1 : form := Box (Var 1).
+Definition f2 : form := Box (And f1 (Var 2)).
+Definition f : form := And f2 (And f2 f1).
+"""
+
+
 def run(*words, **more):
     done = subprocess.run([TOOL] + list(words), cwd=TOP, stdout=subprocess.PIPE, stderr=subprocess.PIPE, text=True, **more)
     return done.stdout, done.stderr, done.returncode
@@ -78,6 +86,8 @@ def check_written(report):
     report.compare("to-coq %s" % LOEB, (LOEB_LINES, "", 0), (behind_comment(written), told, status))
     written, told, status = run("-", input=MODEL)
     report.compare("to-coq - of a model", (MODEL_LINES, "", 0), (behind_comment(written), told, status))
+    written = behind_comment(run("-", input=NESTED)[0])
+    report.compare("to-coq - of shared formulas in one another", NESTED_LINES, written[: len(NESTED_LINES)])
 
 
 def check_file(report, folder):

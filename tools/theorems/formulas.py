@@ -52,10 +52,10 @@ class Definitions:
     def __init__(self, variables, goal):
         self.variables, self.names, self.lines = variables, {}, []
         self.shared = shared(goal)
-        self.define("f", goal)
+        self.define("f", self.term(goal))
 
-    def define(self, name, a):
-        self.lines.append("Definition %s : form := %s." % (name, self.term(a)))
+    def define(self, name, term):
+        self.lines.append("Definition %s : form := %s." % (name, term))
 
     def term(self, a):
         if a[0] == "letter":
@@ -65,13 +65,13 @@ class Definitions:
     def operand(self, a):
         if a in self.names:
             return self.names[a]
-        if a not in self.shared:
-            term = self.term(a)
-            return "(%s)" % term if " " in term else term
-        name = "f%d" % (len(self.names) + 1)
-        self.define(name, a)
-        self.names[a] = name
-        return name
+        term = self.term(a)
+        if a in self.shared:
+            # its parts have their names by now
+            self.names[a] = "f%d" % (len(self.names) + 1)
+            self.define(self.names[a], term)
+            return self.names[a]
+        return "(%s)" % term if " " in term else term
 
 
 def shared(goal):
