@@ -7,7 +7,7 @@ from checks.report import TOP
 
 CERTIFICATE = "examples/check/loeb-in-gl.txt"
 FORMULA = "examples/from-other/dfg/box-and-dia.dfg"
-READERS = (("check-certificate",), ("show",), ("to-coq",), ("from-other", "dfg"), ("explain", "--check"))
+READERS = (("check-certificate",), ("show",), ("from-other", "dfg"), ("explain", "--check"), ("to-coq",))
 WRITERS = (
     ("check-certificate", CERTIFICATE),
     ("check-certificate", "--all", CERTIFICATE, CERTIFICATE),
@@ -62,7 +62,7 @@ def check_unwritten(report, words):
 
 def check_standard_input(report):
     """The name - is standard input."""
-    for words, name in zip(READERS, (CERTIFICATE, CERTIFICATE, FORMULA, CERTIFICATE)):
+    for words, name in zip(READERS, (CERTIFICATE, CERTIFICATE, FORMULA, CERTIFICATE, CERTIFICATE)):
         with open(os.path.join(TOP, name), "rb") as file:
             given = run(words + ("-",), stdin=file, stdout=subprocess.PIPE)
         report.compare("%s -" % words[0], run(words + (name,), stdout=subprocess.PIPE).stdout, given.stdout)
