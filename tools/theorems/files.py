@@ -32,8 +32,9 @@ def defined_list(name, kind, items):
 
 
 def define(name, kind, lines):
-    head = "Definition %s : %s :=" % (name, kind)
-    return ["%s %s" % (head, lines[0])] + lines[1:-1] + ["%s." % lines[-1]] if len(lines) > 1 else ["%s %s." % (head, lines[0])]
+    text = ["Definition %s : %s := %s" % (name, kind, lines[0])] + lines[1:]
+    text[-1] += "."
+    return text
 
 
 def guards_of(logic, steps, table):
