@@ -1,14 +1,12 @@
 """Whether packages are made of the built program alone, are the same each time, and run where they are unpacked, without the
-kit; and whether manual pages tell all that their documents do.
+kit.
 
 Packages are made of a small repository, with a program of the system in place of the built one; and of this one, where its
 program is built.
 """
 
-import collections
 import glob
 import os
-import re
 import shutil
 import subprocess
 import tarfile
@@ -16,11 +14,7 @@ import tempfile
 
 from checks.launcher import COMMANDS
 from checks.report import TOP, text_of
-from packing import roff
 from packing.contents import FOR_SOURCES
-from packing.markdown import Unknown, blocks
-from packing.pages import PAGES, file_name
-from packing.pages import text_of as page_of
 
 PROGRAM = os.path.join("crates", "lw", "out", "lw")
 SOURCE = os.path.join("crates", "lw", "src", "main.rt")
@@ -30,55 +24,6 @@ DATE = "1000000000 +0000"
 VERSION = "0.20010909.014640+"
 INSTALLED = "lw: this is an installed program: it came built, and there are no sources beside it that could be built\n"
 EXAMPLES = ("run/implication", "run/first-script", "check/loeb-in-gl")
-DOCUMENT = """# Title
-
-.A *word*, `a-b`, **bold**, [Other](OTHER.md) and
-a [link](https://example.org).
-
-## Part one
-
-- Löb's
-- two
-
-| a | b |
-|---|---|
-| `p | q` | 'x' |
-
-    $ ./lw run x
-
-    end
-"""
-PAGE = """.PP
-\\&.A \\fIword\\fR, \\fBa\\-b\\fR, \\fBbold\\fR, Other (OTHER.md) and a link (https://example.org).
-.SH PART ONE
-.IP \\(bu 2
-L\\[u00F6]b\\(aqs
-.IP \\(bu 2
-two
-.PP
-.TS
-nokeep tab(\t);
-lbw(5n) 2 lbw(3n)
-lw(5n) 2 lw(3n).
-T{
-a
-T}\tT{
-b
-T}
-T{
-\\fBp | q\\fR
-T}\tT{
-\\(aqx\\(aq
-T}
-.TE
-.PP
-.RS 4
-.EX
-$ ./lw run x
-
-end
-.EE
-.RE"""
 
 
 def run(words, **more):
@@ -256,41 +201,7 @@ def run_examples(report, launcher, kind):
         report.compare("%s: %s" % (kind, name), (text_of("examples/%s.expected" % name), "", 0), written)
 
 
-def part_of(document, heading):
-    """The words of a document's beginning and of its part with this heading, or of all of it; without its title and targets."""
-    text = text_of(document).split("\n", 1)[1]
-    if heading:
-        parts = re.split(r"^## ", text, flags=re.MULTILINE)
-        text = "".join(part for at, part in enumerate(parts) if at == 0 or part.startswith(heading + "\n"))
-    return words_of(re.sub(r"\]\([^)]*\)", "", text))
-
-
-def words_of(text):
-    return collections.Counter(re.findall(r"\w+", text.upper()))
-
-
-def check_pages(report):
-    """A small document by hand; and of each page that man shows it without a warning, with each word of its document."""
-    report.compare("a page of a small document", PAGE, "\n".join(roff.lines(blocks(DOCUMENT))))
-    for text in ("```\ncode", "| a |\n| b |"):
-        try:
-            report.check("a document that can't be read: %r" % text, False, repr(blocks(text)))
-        except Unknown:
-            report.check("a document that can't be read: %r" % text, True)
-    if not shutil.which("man"):
-        print("tools: manual pages aren't shown, since man isn't installed")
-        return
-    for page in PAGES:
-        command = ["man", "--warnings", "-E", "UTF-8", "-l", "-"]
-        environment = dict(os.environ, MANWIDTH="80", LC_ALL="C.UTF-8")
-        done = subprocess.run(command, input=page_of(page, TOP), env=environment, capture_output=True, text=True, check=False)
-        report.compare("man %s: warnings and status" % file_name(page), ("", 0), (done.stderr, done.returncode))
-        missing = part_of(page[2], page[3]) - words_of(done.stdout)
-        report.check("man %s: the words of its document" % file_name(page), not missing, missing)
-
-
 def check_all(report):
-    check_pages(report)
     if not shutil.which("git"):
         print("tools: no packages are made, since git isn't installed")
         return
