@@ -7,7 +7,7 @@ import xml.etree.ElementTree as tree
 from checks.choices import Choices
 from checks.report import text_of
 from checks.running import run
-from checks.show import SVG
+from checks.pictures import SVG
 from checks.shown_proofs import PIGEONS, doubled, proofs
 from showing import contours, proof_picture
 from showing.proof_nodes import FOLDED_FROM
