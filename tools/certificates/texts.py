@@ -6,9 +6,9 @@ from certificates.formulas import NoFormula, formula, is_name
 
 DEPTH_LIMIT = 4096
 NUMBER_LIMIT = 2**64
-# what the texts of docs/CERTIFICATES.md name; the rows of k4, kd and serial beside these texts wait for the program to have them
-LOGICS = ("k", "kt", "s4", "s5", "gl", "grz")
-ARITY = {"close": 0, "absurd": 0, "one": 1, "two": 2, "refl": 1, "step": 1, "cut": 2}
+# what the texts of docs/CERTIFICATES.md name
+LOGICS = ("k", "kt", "s4", "s5", "gl", "grz", "k4", "kd")
+ARITY = {"close": 0, "absurd": 0, "one": 1, "two": 2, "refl": 1, "step": 1, "serial": 1, "cut": 2}
 
 
 class Fault(Exception):

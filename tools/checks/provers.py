@@ -4,6 +4,7 @@ import re
 
 from certificates.formulas import printed, spelled
 from certificates.judge import verdict
+from certificates.texts import LOGICS
 from checks.choices import Choices
 from checks.report import text_of
 from checks.running import loaded
@@ -52,7 +53,7 @@ def check_document(report):
         line, status = verdict(("\n".join(lines) + "\n").encode())
         report.compare("%s, %s" % (DOCUMENT, lines[2]), "accepted", line)
         kinds.add((lines[1], lines[3]))
-    wanted = {("logic " + logic, kind) for logic in ("k", "kt", "s4", "s5", "gl", "grz") for kind in ("proof", "model")}
+    wanted = {("logic " + logic, kind) for logic in LOGICS for kind in ("proof", "model")}
     report.compare("%s, a proof and a model of each logic" % DOCUMENT, wanted, kinds)
 
 

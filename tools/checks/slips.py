@@ -62,7 +62,7 @@ MENDED = [
     ("print 1;;", "this `;` ends no statement", "print 1;"),
     ("print 1; end", "this `end` closes nothing", "print 1;"),
 ]
-LOGICS = "the logics are k, kt, s4, s5, gl and grz"
+LOGICS = "the logics are k, kt, s4, s5, gl, grz, k4 and kd"
 # the same of mistakes in the kind of a value, with what stands at the caret; the text is meant apart from brackets
 KINDS = [
     ("print p and q;", "between formulas `and` is written `&`", "and", "print p & q;"),
@@ -135,7 +135,7 @@ TEXTS = [
     ("print valid(k, p);", "there is no function `valid`; the functions are nnf, ", "valid"),
     ('print "a\\"b";', "there are no escapes in a text", "b"),
     ("print 1/2;", "numbers are whole, and there is no division", "/2"),
-    ("print provable(k4, p);", "`k4` is a reserved word that no script has yet; " + LOGICS, "k4"),
+    ("print follows(k, p);", "`follows` is a reserved word that no script has yet", "follows"),
     ("print 99999999999999999999;", "a number is at most 18,446,744,073,709,551,615", "999"),
     ("print %s;" % (65 * "p"), "a name has at most 64 bytes", "ppp"),
     ("print %sp" % (401 * "("), "more than 400 constructs are unfinished here", "(p"),

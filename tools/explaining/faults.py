@@ -6,8 +6,8 @@ import unicodedata
 from explaining import misfits, runs
 from explaining.grammar import first_fault
 from explaining.guesses import guess
-from explaining.logics import HAS_INTERPOLANTS, listed
-from explaining.tokens import FUNCTIONS, LOGICS, RESERVED, UNUSED, place
+from explaining.logics import listed
+from explaining.tokens import FUNCTIONS, RESERVED, UNUSED, place
 
 FILE_LIMIT = 1048576
 # how many letters of a source line are shown on each side of its caret
@@ -104,8 +104,6 @@ def told_of_syntax(data, fault):
         said = NESTED
     elif fault.token.text in UNUSED:
         said = "`%s` is a reserved word that no script has yet" % fault.token.text
-        if fault.token.text in HAS_INTERPOLANTS:
-            said += "; the logics are %s" % listed(LOGICS)
     elif fault.token.kind == "end":
         said = "the text ends too early"
     else:

@@ -11,8 +11,8 @@ FUNCTIONS = {
     **dict.fromkeys("provable certificate fixpoint item append".split(), 2),
     **dict.fromkeys("interpolate substitute".split(), 3),
 }
-LOGICS = ("k", "kt", "s4", "s5", "gl", "grz")
-UNUSED = ("k4", "kd", "follows")
+LOGICS = ("k", "kt", "s4", "s5", "gl", "grz", "k4", "kd")
+UNUSED = ("follows",)
 STATEMENTS = ("print", "if", "for", "while")
 OTHERS = "true false box dia v yes no none and or not then else end to in do".split()
 RESERVED = set(STATEMENTS) | set(OTHERS) | set(LOGICS) | set(FUNCTIONS) | set(UNUSED)

@@ -8,10 +8,10 @@ syn keyword lwWord and or not
 syn keyword lwTruth true false
 syn keyword lwAnswer yes no none
 syn keyword lwStatement print if then else end for to in do while
-syn keyword lwLogic k kt s4 s5 gl grz
+syn keyword lwLogic k kt s4 s5 gl grz k4 kd
 syn keyword lwFunction provable certificate interpolate fixpoint nnf simplify goedel boxdot substitute vars depth count length item append smallest trace letterless shared
 " reserved, and in no script yet
-syn keyword lwReserved k4 kd follows
+syn keyword lwReserved follows
 syn match lwVariable "\<[A-Z][A-Za-z0-9_]*"
 syn match lwNumber "\<[0-9]\+\>"
 syn match lwSymbol "<->\|->\|:=\|==\|!=\|<=\|<\|[~&+*();,\-]\|\[\|\]"

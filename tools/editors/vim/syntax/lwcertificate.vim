@@ -7,13 +7,13 @@ syn include @lwFormula syntax/lwformula.vim
 unlet! b:current_syntax
 
 syn match lwHead "^\%(certificate 1\|proof\|model\|end\)$"
-syn match lwLogicLine "^logic \%(k\|kt\|s4\|s5\|gl\|grz\)$" contains=lwLogicWord,lwLogic
+syn match lwLogicLine "^logic \%(k\|kt\|s4\|s5\|gl\|grz\|k4\|kd\)$" contains=lwLogicWord,lwLogic
 syn match lwLogicWord "^logic" contained
-syn match lwLogic "\%(k\|kt\|s4\|s5\|gl\|grz\)$" contained
+syn match lwLogic "\%(k\|kt\|s4\|s5\|gl\|grz\|k4\|kd\)$" contained
 syn match lwFormulaLine "^formula .*$" contains=lwFormulaWord,@lwFormula
 syn match lwFormulaWord "^formula" contained
-syn match lwStepLine "^\%(close\|absurd\|one\|two\|refl\|step\|cut\) [TF] .*$" contains=lwRule,lwSign,@lwFormula
-syn match lwRule "^\%(close\|absurd\|one\|two\|refl\|step\|cut\)" contained nextgroup=lwSign skipwhite
+syn match lwStepLine "^\%(close\|absurd\|one\|two\|refl\|step\|serial\|cut\) [TF] .*$" contains=lwRule,lwSign,@lwFormula
+syn match lwRule "^\%(close\|absurd\|one\|two\|refl\|step\|serial\|cut\)" contained nextgroup=lwSign skipwhite
 syn match lwSign "\<[TF]\>" contained
 syn match lwModelLine "^\%(worlds\|refuted\) [0-9]\+$" contains=lwModelWord,lwNumber
 syn match lwWorldLine "^world [0-9]\+ sees[0-9 ]* true.*$" contains=lwModelWord,lwNumber
