@@ -106,10 +106,13 @@ def arrows_of(svg):
 
 
 def evenly(line):
-    """Points on the line, one a unit."""
+    """Points on the line, one a unit of its length."""
+    left = 0.0
     for p, q in zip(line, line[1:]):
-        count = max(1, round(math.dist(p, q)))
-        yield from ((p[0] + (q[0] - p[0]) * i / count, p[1] + (q[1] - p[1]) * i / count) for i in range(count))
+        length = math.dist(p, q)
+        count = math.floor(left + length)
+        yield from ((p[0] + (q[0] - p[0]) * (i - left) / length, p[1] + (q[1] - p[1]) * (i - left) / length) for i in range(1, count + 1))
+        left += length - count
 
 
 def share_beside(one, other):

@@ -20,23 +20,28 @@ def around(cell):
     return [(cell[0] + i, cell[1] + j) for i in (-1, 0, 1) for j in (-1, 0, 1)]
 
 
+def steps_of(drawn):
+    """How long the way is from each point but the last to the next."""
+    return [math.dist(p, q) for p, q in zip(drawn, drawn[1:])]
+
+
 def detour(drawn):
     """How many times as long as the straight way the arrow is."""
-    return sum(math.dist(p, q) for p, q in zip(drawn, drawn[1:])) / max(1.0, math.dist(drawn[0], drawn[-1]))
+    return sum(steps_of(drawn)) / max(1.0, math.dist(drawn[0], drawn[-1]))
 
 
 class Paper:
     """The nodes' outlines, the arrows with the points along them and their ends, and how bad the worst of them is."""
 
     def __init__(self, shapes):
-        self.shapes, self.cells, self.counts, self.ends, self.worst = shapes, {}, [], [], 0.0
+        self.shapes, self.cells, self.lengths, self.ends, self.worst = shapes, {}, [], [], 0.0
 
     def add(self, points, heads):
         """Draws the arrow; `heads` says of its two ends whether they have one."""
         drawn = list(along(points))
         for p in drawn:
-            self.cells.setdefault(cell_of(p), []).append((len(self.counts), p))
-        self.counts.append(len(drawn))
+            self.cells.setdefault(cell_of(p), []).append((len(self.lengths), p))
+        self.lengths.append(sum(steps_of(drawn)))
         self.ends += [(points[0], heads[0]), (points[-1], heads[1])]
 
     def hits(self, drawn, own):
@@ -63,12 +68,12 @@ class Paper:
 
     def running(self, drawn):
         """How much more than is allowed the points run beside other arrows, as parts of the shorter one's length."""
-        beside = {}
-        for p in drawn:
+        beside, steps = {}, steps_of(drawn)
+        for p, step in zip(drawn, steps):
             near = {k for cell in around(cell_of(p)) for k, q in self.cells.get(cell, ()) if math.dist(p, q) < CLOSE}
             for k in near:
-                beside[k] = beside.get(k, 0) + 1
-        return sum(max(0.0, count / min(len(drawn), self.counts[k]) - MOST_CLOSE) for k, count in beside.items())
+                beside[k] = beside.get(k, 0.0) + step
+        return sum(max(0.0, part / min(sum(steps), self.lengths[k]) - MOST_CLOSE) for k, part in beside.items())
 
     def badness(self, points, heads, own, most):
         """How badly the arrow can be told from all that is drawn, and how much of a detour it is, but for a loop; no more is

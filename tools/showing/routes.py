@@ -9,7 +9,7 @@ FAR = 10000.0
 ASIDE = (0.0, 0.35, -0.35, 0.7, -0.7)
 SIDEWAYS = sorted(((one, other) for one in ASIDE for other in ASIDE), key=lambda pair: abs(pair[0]) + abs(pair[1]))
 LITTLE, MORE = (0.25, -0.25, 0.5, -0.5), (0.8, -0.8, 1.2, -1.2, 1.7, -1.7, 2.2, -2.2)
-LOOP_ANGLES = (-45, -135, 45, 135, 0, 180, -90, 90, -20, -65, 20, 65, 155, -155)
+LOOP_ANGLES = (-45, -20, 0, 20, 45, -135, -160, 180, 160, 135, -90, 90, -65, 65)
 LOOP_OPENING, LOOP_BULGE = 26, 24
 
 

@@ -7,7 +7,7 @@ import math
 from xml.sax.saxutils import escape
 
 HEAD, HALF_HEAD = 9, 4
-APART = 2
+APART, STEPS = 2, 16
 
 
 def number(value):
@@ -58,19 +58,38 @@ def head(tip, back):
     return '<path class="head" d="M %s L %s L %s Z"/>' % tuple(point(corner) for corner in corners)
 
 
+def part_to(piece, t):
+    """The cubic piece up to its point at t (de Casteljau's construction)."""
+    left, points = [], piece
+    while points:
+        left.append(points[0])
+        points = [on_line(pair, t) for pair in zip(points, points[1:])]
+    return left
+
+
+def shortened(points, length):
+    """The line or curve up to where its end is so far away."""
+    low, high = 0.0, 1.0
+    piece = points[-4:]
+    for _ in range(STEPS):
+        half = (low + high) / 2
+        low, high = (half, high) if math.dist(part_to(piece, half)[-1], points[-1]) > length else (low, half)
+    return points[: -len(piece)] + part_to(piece, low)
+
+
 def stroke(points, two_headed):
     """The line or curve with a head at its end, or at both ends."""
-    start = toward(points[0], points[1], HEAD - 1) if two_headed else points[0]
-    end = toward(points[-1], points[-2], HEAD - 1)
-    through = [start] + points[1:-1] + [end]
-    if len(through) == 2:
-        pieces = ["L " + point(end)]
-    else:
-        pieces = ["C " + ", ".join(point(p) for p in through[i : i + 3]) for i in range(1, len(through), 3)]
-    yield '<path d="M %s %s"/>' % (point(start), " ".join(pieces))
-    yield head(points[-1], points[-2])
+    line = shortened(points, HEAD - 1)
     if two_headed:
-        yield head(points[0], points[1])
+        line = shortened(line[::-1], HEAD - 1)[::-1]
+    if len(line) == 2:
+        pieces = ["L " + point(line[1])]
+    else:
+        pieces = ["C " + ", ".join(point(p) for p in line[i : i + 3]) for i in range(1, len(line), 3)]
+    yield '<path d="M %s %s"/>' % (point(line[0]), " ".join(pieces))
+    yield head(points[-1], line[-1])
+    if two_headed:
+        yield head(points[0], line[0])
 
 
 def outline(shape, kind):
