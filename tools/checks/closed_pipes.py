@@ -6,15 +6,26 @@ import subprocess
 from checks.report import TOP
 
 CERTIFICATE = "examples/check/loeb-in-gl.txt"
+MODEL = "examples/check/one-dead-end.txt"
 FORMULA = "examples/from-other/dfg/box-and-dia.dfg"
-READERS = (("check-certificate",), ("show",), ("from-other", "dfg"))
+SCRIPT = "examples/run/proof"
+READERS = (("check-certificate",), ("show",), ("from-other", "dfg"), ("explain", "--check"), ("to-coq",))
 WRITERS = (
     ("check-certificate", CERTIFICATE),
     ("check-certificate", "--all", CERTIFICATE, CERTIFICATE),
     ("check-certificate", "--json", CERTIFICATE),
     ("show", CERTIFICATE),
+    ("show", MODEL, "--svg", "-"),
+    ("show", MODEL, "--dot", "-"),
+    ("show", CERTIFICATE, "--tree"),
+    ("show", CERTIFICATE, "--shared"),
+    ("show", CERTIFICATE, "--latex"),
+    ("page", SCRIPT + ".txt", "--output", SCRIPT + ".expected", "-o", "-"),
+    ("to-coq", CERTIFICATE),
     ("from-other", "dfg", FORMULA),
     ("trusted-reading", "--total"),
+    ("ask", "k", "p"),
+    ("show", "--version"),
 )
 
 
@@ -59,7 +70,7 @@ def check_unwritten(report, words):
 
 def check_standard_input(report):
     """The name - is standard input."""
-    for words, name in ((("check-certificate",), CERTIFICATE), (("show",), CERTIFICATE), (("from-other", "dfg"), FORMULA)):
+    for words, name in zip(READERS, (CERTIFICATE, CERTIFICATE, FORMULA, CERTIFICATE, CERTIFICATE)):
         with open(os.path.join(TOP, name), "rb") as file:
             given = run(words + ("-",), stdin=file, stdout=subprocess.PIPE)
         report.compare("%s -" % words[0], run(words + (name,), stdout=subprocess.PIPE).stdout, given.stdout)

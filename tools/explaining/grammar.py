@@ -3,7 +3,7 @@
 import sys
 from collections import namedtuple
 
-from explaining.tokens import FUNCTIONS, LOGICS, RESERVED, STATEMENTS, place, tokens
+from explaining.tokens import FUNCTIONS, LOGICS, RESERVED, STATEMENTS, end_of, place, tokens
 
 NESTING_LIMIT = 400
 NAME_LIMIT = 64
@@ -27,6 +27,12 @@ sys.setrecursionlimit(40000)
 
 # kind is unexpected, name, number or nested; `before` is the token before, or None; `wanted` says what was open
 SyntaxFault = namedtuple("SyntaxFault", "kind token before wanted opened line column")
+# an expression: its shape is binary, prefix, call, brackets, list or atom, its token the sign, the function's name, the
+# bracket or the atom; `parts` are the expressions in it, `begin` and `end` offsets
+Node = namedtuple("Node", "shape token parts begin end")
+# `word` is :=, print, if, while, to or in; `target` is the token of the variable that it gives a value to, or None; `heads`
+# are the expressions outside the statements in it, and `end` is the offset behind it
+Statement = namedtuple("Statement", "word token target heads body end")
 
 
 class Stop(Exception):
@@ -34,13 +40,19 @@ class Stop(Exception):
 
 
 class Reader:
-    """Reads a script by recursive descent. `opened` holds the tokens whose bracket or statement isn't closed."""
+    """Reads a script by recursive descent. `opened` holds the tokens whose bracket or statement isn't closed, `found` the
+    script's statements that are read whole, apart from those within others.
+    """
 
     def __init__(self, data):
-        self.tokens, self.at, self.depth, self.opened = tokens(data), 0, 0, []
+        self.tokens, self.at, self.depth, self.opened, self.found = tokens(data), 0, 0, [], []
 
     def token(self):
         return self.tokens[self.at]
+
+    def end(self):
+        """The offset behind what was read."""
+        return end_of(self.tokens[self.at - 1])
 
     def refuse(self, kind, wanted=""):
         raise Stop(kind, wanted)
@@ -54,11 +66,13 @@ class Reader:
             self.refuse("number")
 
     def take(self, opens=0):
+        """Reads a token, and gives it."""
         self.test()
         self.depth += opens
         if self.depth > NESTING_LIMIT:
             self.refuse("nested")
         self.at += 1
+        return self.tokens[self.at - 1]
 
     def is_next(self, *words):
         return self.token().kind in ("word", "symbol") and self.token().text in words
@@ -69,137 +83,143 @@ class Reader:
         self.take()
 
     def script(self):
-        self.statements()
+        self.statements(self.found)
         if self.token().kind != "end":
             self.refuse("unexpected", "statement")
 
-    def statements(self):
+    def statements(self, found):
+        """Reads statements, and appends each to the list, which is given back."""
         while self.is_next(*STATEMENTS) or self.is_upper():
-            self.statement()
+            found.append(self.statement())
+        return found
 
     def is_upper(self):
         return self.token().kind == "word" and self.token().text[0].isupper()
 
     def statement(self):
-        word = self.token().text
-        if word not in STATEMENTS:
-            self.upper()
-            self.want(":=")
-            self.expression()
-            self.want(";")
-        elif word == "print":
+        token, target = self.token(), None
+        word = token.text if token.text in STATEMENTS else ":="
+        if word in ("if", "for", "while"):
+            return self.block(word)
+        if word == "print":
             self.take()
-            self.items()
-            self.want(";")
+            heads = self.items()
         else:
-            self.block(word)
+            target = self.upper()
+            self.want(":=")
+            heads = [self.expression()]
+        self.want(";")
+        return Statement(word, token, target, heads, [], self.end())
 
     def upper(self):
         if not self.is_upper():
             self.refuse("unexpected", "script variable")
-        self.take()
+        return self.take()
 
     def block(self, word):
-        self.opened.append(self.token())
+        token, target = self.token(), None
+        self.opened.append(token)
         self.take(1)
         if word == "for":
-            self.range()
+            word, target, heads = self.range()
         else:
-            self.expression()
+            heads = [self.expression()]
         self.want("then" if word == "if" else "do")
-        self.statements()
+        body = self.statements([])
         if word == "if" and self.is_next("else"):
             self.take()
-            self.statements()
+            self.statements(body)
         self.want("end")
         self.depth -= 1
         self.opened.pop()
+        return Statement(word, token, target, heads, body, self.end())
 
     def range(self):
-        self.upper()
+        target = self.upper()
         if self.is_next("in"):
             self.take()
-            self.expression()
-            return
+            return "in", target, [self.expression()]
         self.want(":=")
-        self.expression()
+        first = self.expression()
         self.want("to")
-        self.expression()
+        return "to", target, [first, self.expression()]
 
     def items(self):
-        self.expression()
-        count = 1
+        found = [self.expression()]
         while self.is_next(","):
             self.take()
-            self.expression()
-            count += 1
-        return count
+            found.append(self.expression())
+        return found
 
     def expression(self, level=0):
         if level == len(LEVELS):
-            self.prefixed()
-            return
+            return self.prefixed(("~", "box", "dia"), self.atom)
         shape, signs = LEVELS[level]
-        before = self.depth
         if shape == "not":
-            while self.is_next("not"):
-                self.take(1)
-            self.expression(level + 1)
-            self.depth = before
-            return
-        self.expression(level + 1)
+            return self.prefixed(signs, lambda: self.expression(level + 1))
+        before = self.depth
+        made = self.expression(level + 1)
         while self.is_next(*signs):
-            self.take(1)
-            self.expression(level if shape == "right" else level + 1)
+            sign = self.take(1)
+            right = self.expression(level if shape == "right" else level + 1)
+            made = Node("binary", sign, [made, right], made.begin, right.end)
             if shape != "left":
                 break
         self.depth = before
+        return made
 
-    def prefixed(self):
-        before = self.depth
-        while self.is_next("~", "box", "dia"):
-            self.take(1)
-        self.atom()
+    def prefixed(self, signs, operand):
+        before, taken = self.depth, []
+        while self.is_next(*signs):
+            taken.append(self.take(1))
+        made = operand()
         self.depth = before
+        for sign in reversed(taken):
+            made = Node("prefix", sign, [made], sign.at, made.end)
+        return made
 
     def atom(self):
         token = self.token()
         if token.kind == "word" and token.text in FUNCTIONS:
-            self.call(token.text)
-        elif self.is_next("("):
-            self.bracket(")", self.expression)
-        elif self.is_next("["):
-            self.bracket("]", lambda: None if self.is_next("]") else self.items())
-        elif token.kind in ("number", "text") or self.is_next(*CONSTANTS):
+            return self.call(token.text)
+        if self.is_next("("):
+            return self.bracket("brackets", ")", lambda: [self.expression()])
+        if self.is_next("["):
+            return self.bracket("list", "]", lambda: [] if self.is_next("]") else self.items())
+        if token.kind in ("number", "text") or self.is_next(*CONSTANTS) or (token.kind == "word" and token.text not in RESERVED):
             self.take()
-        elif token.kind == "word" and token.text not in RESERVED:
-            self.take()
-        else:
-            self.refuse("unexpected", "operand")
+            return Node("atom", token, [], token.at, end_of(token))
+        self.refuse("unexpected", "operand")
 
-    def bracket(self, closing, inner):
-        self.opened.append(self.token())
+    def bracket(self, shape, closing, inner):
+        token = self.token()
+        self.opened.append(token)
         self.take(1)
-        inner()
+        parts = inner()
         self.want(closing)
         self.depth -= 1
         self.opened.pop()
+        return Node(shape, token, parts, token.at, self.end())
 
     def call(self, function):
-        self.take()
+        token = self.take()
         if not self.is_next("("):
             self.refuse("unexpected", "(")
-        self.bracket(")", lambda: self.arguments(FUNCTIONS[function]))
+        inside = self.bracket("list", ")", lambda: self.arguments(FUNCTIONS[function]))
+        return Node("call", token, inside.parts, token.at, inside.end)
 
     def arguments(self, count):
-        self.expression()
+        found = [self.expression()]
         for _ in range(count - 1):
             self.want(",")
-            self.expression()
+            found.append(self.expression())
+        return found
 
 
-def first_fault(data):
-    """The first SyntaxFault of a script's bytes, or None where its text is a script's."""
+def read(data):
+    """The whole Statements with which a script's bytes begin, and the first SyntaxFault, or None where the text is a
+    script's.
+    """
     reader = Reader(data)
     try:
         reader.script()
@@ -207,5 +227,15 @@ def first_fault(data):
         kind, wanted = stop.args
         token = reader.token()
         before = reader.tokens[reader.at - 1] if reader.at else None
-        return SyntaxFault(kind, token, before, wanted, list(reader.opened), *place(data, token.at))
-    return None
+        return reader.found, SyntaxFault(kind, token, before, wanted, list(reader.opened), *place(data, token.at))
+    return reader.found, None
+
+
+def first_fault(data):
+    """The first SyntaxFault of a script's bytes, or None where its text is a script's."""
+    return read(data)[1]
+
+
+def fault_line(fault):
+    """The line that the program writes of a SyntaxFault."""
+    return "fault: line %d column %d: %s" % (fault.line, fault.column, fault.kind)

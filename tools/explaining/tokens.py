@@ -39,6 +39,11 @@ def tokens(data):
     return found + [Token("end", "", len(data))]
 
 
+def end_of(token):
+    """The offset behind a token."""
+    return token.at + len(token.text)
+
+
 def place(data, at):
     """The line and the column of an offset, both from 1; columns count bytes."""
     return data.count(b"\n", 0, at) + 1, at - (data.rfind(b"\n", 0, at) + 1) + 1

@@ -1,41 +1,38 @@
-"""What stands in the circle of a world, and how wide circles must be for it."""
+"""What stands in the outline of a world, and how much room letters take."""
 
 import math
 
-LETTER, LINE = 8, 15
-LONGEST_NAME, LONGEST_LINE, MOST_LINES = 14, 11, 5
-LEAST_RADIUS = 20
+SIZE, LINE = 13, 16
+# the width of a letter, as a part of the type's size, where it isn't the usual one: as wide as in the widest common types
+USUAL, BOLDER = 0.65, 1.1
+WIDTHS = {letter: width for letters, width in (("ijlIJ.,:;'|", 0.36), ("frt()[]- ", 0.46), ("mwMW@%", 1.0)) for letter in letters}
+WIDTHS.update((letter, 0.8) for letter in "ABCDEFGHKLNOPQRSTUVXYZ")
+WIDTHS.update((letter, 1.0) for letter in "□◇→↔∧∨¬⊤⊥")
+NARROWEST = 72
 
 
-def short(name):
-    return name if len(name) <= LONGEST_NAME else name[: LONGEST_NAME - 1] + "…"
+def width_of(text, is_bold=False):
+    """The width that is reckoned with for the text; in no common type it is wider."""
+    return SIZE * (BOLDER if is_bold else 1.0) * sum(WIDTHS.get(letter, USUAL) for letter in text)
 
 
-def wrapped(words, longest):
-    """The words in lines of at most this length, a longer word in a line of its own."""
+def wrapped(words, width):
+    """The words in lines of at most this width, a wider word in a line of its own."""
     lines = []
     for word in words:
-        if lines and len(lines[-1]) + 1 + len(word) <= longest:
+        if lines and width_of(lines[-1] + " " + word) <= width:
             lines[-1] += " " + word
         else:
             lines.append(word)
     return lines
 
 
-def variable_lines(names):
-    """The names in a few short lines; where there are more, or where one is long, that is shown by dots."""
-    lines = wrapped([short(name) for name in sorted(names)], LONGEST_LINE)
-    return lines if len(lines) <= MOST_LINES else lines[: MOST_LINES - 1] + ["…"]
-
-
 def label_of(world, names):
-    return [str(world)] + variable_lines(names)
+    """The world's number, and below it the whole names of what is true there, in lines about twice as wide as all are high."""
+    total = sum(width_of(name + " ") for name in names)
+    return [str(world)] + wrapped(sorted(names), max(NARROWEST, math.sqrt(2 * LINE * total)))
 
 
-def radius_for(labels):
-    """The least radius of a circle that has room for each label."""
-    needed = [LEAST_RADIUS]
-    for lines in labels:
-        width, height = LETTER * max(map(len, lines)), LINE * len(lines)
-        needed.append(math.ceil(math.sqrt(width * width + height * height) / 2) + 3)
-    return max(needed)
+def size_of(label):
+    """The width and the height of the lines of a label, of which the first is bold."""
+    return max([width_of(label[0], True)] + [width_of(line) for line in label[1:]]), LINE * len(label)

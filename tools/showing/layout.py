@@ -1,25 +1,30 @@
-"""Where the worlds of a picture stand: in rows by their layers, near those that they see (Sugiyama's method).
+"""Where the nodes of a picture stand: in rows by their layers, near those that they see (Sugiyama's method); nodes that
+reach one another stand on a ring.
 
-An arrow that passes a row takes up a slot in it, so that it goes between the circles.
+An arrow that passes a row takes up a slot in it, so that there is a way for it between the nodes.
 """
 
 from showing.layers import knots_of, layer_of_each
+from showing.rings import extent, places_of
 
 ROUNDS = 12
+PASSING, ROW_GAP, MORE_GAP = 22, 64, 60
 
 
 class Slot:
-    """A place in a row: of some worlds that reach one another, or of an arrow that passes."""
+    """A place in a row: of some nodes that reach one another, each with its offset, or of an arrow that passes."""
 
-    def __init__(self, row, worlds, width):
-        self.row, self.worlds, self.width = row, worlds, width
+    def __init__(self, row, places, width, height):
+        self.row, self.places, self.width, self.height = row, places, width, height
         self.above, self.below, self.x = [], [], 0.0
 
 
-def world_slots(knots, layer, spacing):
-    """A slot for each knot, in which its worlds stand side by side."""
-    slots = [Slot(layer[knot[0]], knot, spacing * len(knot)) for knot in knots]
-    return slots, {w: slot for slot in slots for w in slot.worlds}
+def node_slot(row, knot, sizes, arrows, gap):
+    """A slot around the bounds of its nodes."""
+    places = places_of(knot, sizes, arrows, gap)
+    left, top, right, low = extent(places, sizes)
+    middle = ((left + right) / 2, (top + low) / 2)
+    return Slot(row, {i: (x - middle[0], y - middle[1]) for i, (x, y) in places.items()}, right - left + gap, low - top)
 
 
 def passing_slots(arrows, slot_of, width):
@@ -28,7 +33,7 @@ def passing_slots(arrows, slot_of, width):
     for v, w in arrows:
         first, last = slot_of[v], slot_of[w]
         if first is not last:
-            passed = [Slot(row, [], width) for row in range(first.row + 1, last.row)]
+            passed = [Slot(row, {}, width, 0.0) for row in range(first.row + 1, last.row)]
             ways[(v, w)] = [first] + passed + [last]
     return ways
 
@@ -116,21 +121,33 @@ def place_rows(rows):
             settle(row, [mean_of(slot.above if downward else slot.below, slot.x) for slot in row])
 
 
-class Layout:
-    """Where each world stands, in columns of whole units from 0 and in rows, and the ways of the arrows between rows."""
+def row_heights(rows, gap):
+    """The middle of each row, from the upper edge of the first, and half the height of each."""
+    middles, at = [], 0.0
+    for row in rows:
+        half = max(slot.height for slot in row) / 2
+        middles.append((at + half, half))
+        at += 2 * half + gap
+    return middles
 
-    def __init__(self, count, arrows, spacing, passing):
-        knots = knots_of(count, arrows)
-        slots, slot_of = world_slots(knots, layer_of_each(count, arrows, knots), spacing)
-        ways = passing_slots(arrows, slot_of, passing)
+
+class Layout:
+    """The middle of each node, its offset from the middle of its ring, and for each arrow between rows the middle and half the
+    height of each row that it passes. The distances between nodes are `gap` and more, times the spread."""
+
+    def __init__(self, sizes, arrows, gap, spread):
+        knots = knots_of(len(sizes), arrows)
+        layer = layer_of_each(len(sizes), arrows, knots)
+        slots = [node_slot(layer[knot[0]], knot, sizes, arrows, gap * spread) for knot in knots]
+        ways = passing_slots(arrows, {i: slot for slot in slots for i in slot.places}, PASSING * spread)
         join(ways)
-        self.rows = order_rows(rows_of(slots, ways))
-        place_rows(self.rows)
-        left = min(slot.x - slot.width / 2 for row in self.rows for slot in row)
-        self.width = round(max(slot.x + slot.width / 2 for row in self.rows for slot in row) - left)
-        self.row = {w: slot.row for slot in slots for w in slot.worlds}
-        self.x = {}
+        rows = order_rows(rows_of(slots, ways))
+        place_rows(rows)
+        width = max(slot.x + slot.width / 2 for row in rows for slot in row) - min(slot.x - slot.width / 2 for row in rows for slot in row)
+        heights = row_heights(rows, spread * (ROW_GAP + min(MORE_GAP, width // 12)))
+        self.middles, self.outward = {}, {}
         for slot in slots:
-            for i, w in enumerate(slot.worlds):
-                self.x[w] = round(slot.x - left + spacing * (i + 0.5 - len(slot.worlds) / 2))
-        self.passed = {arrow: [(round(slot.x - left), slot.row) for slot in way[1:-1]] for arrow, way in ways.items()}
+            for i, (x, y) in slot.places.items():
+                self.middles[i] = (slot.x + x, heights[slot.row][0] + y)
+                self.outward[i] = (x, y)
+        self.passed = {arrow: [(slot.x,) + heights[slot.row] for slot in way[1:-1]] for arrow, way in ways.items()}

@@ -1,4 +1,4 @@
-"""A model as a table of its worlds, and where each subformula is true."""
+"""A model as a table of its worlds, and where formulas are true."""
 
 from certificates.formulas import printed, subformulas
 from certificates.models import true_worlds
@@ -23,19 +23,27 @@ def world_rows(model, drawn):
         yield ("%d%s" % (w, " refuting" if w == refuted else ""), numbers(seen), " ".join(sorted(names)) or "-")
 
 
-def truth_rows(goal, model):
-    """The subformulas, the shorter ones first, with the worlds at which they are true."""
+def asked(goal, also):
+    """The subformulas of the goal, where there is one, the shorter ones first; and then those that are asked for besides."""
+    inner = subformulas(goal) if goal else []
+    in_order = sorted(inner, key=lambda a: (len(printed(a)), printed(a)))
+    return in_order + [a for a in dict.fromkeys(also) if a not in inner]
+
+
+def truth_rows(formulas, model, form):
+    """The formulas, with the worlds at which they are true."""
     sees, facts, _ = model
     known = {}
-    true_worlds(sees, facts, goal, known)
     yield ("true at", "formula")
-    for text, a in sorted(((printed(a), a) for a in subformulas(goal)), key=lambda row: (len(row[0]), row[0])):
-        yield (numbers(known[a]), text)
+    for a in formulas:
+        yield (numbers(true_worlds(sees, facts, a, known)), form(a))
 
 
-def lines(goal, model, drawn, left_out):
-    yield from table(list(world_rows(model, drawn)))
-    if left_out:
-        yield "Left out under `sees`: %s." % left_out
-    yield ""
-    yield from table(list(truth_rows(goal, model)))
+def lines(view, form):
+    """The table of a view of a model, and below it the table of truth where there is a formula, as `form` writes it."""
+    yield from table(list(world_rows(view.model, view.arrows)))
+    if view.left_out:
+        yield "Left out under `sees`: %s." % view.left_out
+    if view.asked:
+        yield ""
+        yield from table(list(truth_rows(view.asked, view.model, form)))

@@ -1,20 +1,22 @@
-"""A model as a picture in SVG, drawn by itself: circles with their true variables, the refuting world's doubled, and arrows."""
+"""A model as a picture in SVG: worlds with what is true there, the refuting one's outline doubled, frames and arrows."""
 
+import math
 import re
-from xml.sax.saxutils import escape
+from xml.sax.saxutils import escape, unescape
 
-from showing.arrows import arrow_lines, one_for_both_ways
-from showing.labels import LETTER, LINE, label_of, radius_for, wrapped
-from showing.layout import Layout
-from showing.strokes import number, text_line
+from showing import told
+from showing.drawn import drawn_of
+from showing.labels import LINE, width_of, wrapped
+from showing.nodes import RING, arrows_between, groups_of
+from showing.strokes import outline, stroke, text_line
 
 MOST_ARROWS = 600
 SIZE = re.compile('width="([0-9]+)" height="([0-9]+)"')
-RING = 4
 MARGIN, LEAST_WIDTH = 24, 460
 STYLE = (
-    "text { font-family: monospace; font-size: 13px; fill: black; } .middle { text-anchor: middle; } "
-    ".world { font-weight: bold; } circle, path { fill: none; stroke: black; stroke-width: 1.3; } .head { fill: black; stroke: none; }"
+    "text { font-family: 'DejaVu Sans', Verdana, Helvetica, Arial, sans-serif; font-size: 13px; fill: black; } "
+    ".middle { text-anchor: middle; } .number { font-weight: bold; } .world { fill: white; stroke: black; stroke-width: 1.3; } "
+    ".frame { fill: #f0f0f0; stroke: black; } path { fill: none; stroke: black; stroke-width: 1.3; } .head { fill: black; stroke: none; }"
 )
 
 
@@ -22,102 +24,83 @@ class TooManyArrows(Exception):
     """There are more arrows than a picture can show."""
 
 
-class Picture:
-    """The places of circles and arrows on the paper."""
-
-    def __init__(self, model, arrows):
-        self.sees, self.facts, self.refuted = model
-        self.labels = [label_of(w, names) for w, names in enumerate(self.facts)]
-        self.radius = radius_for(self.labels)
-        self.loops = sorted(v for v, w in arrows if v == w)
-        others = sorted((v, w) for v, w in arrows if v != w)
-        self.arrows = one_for_both_ways(others)
-        gap = 34 + (18 if self.loops else 0)
-        self.layout = Layout(len(self.sees), others, 2 * (self.radius + RING) + gap, 22)
-        self.step = 2 * self.radius + self.row_gap()
-        self.top = MARGIN + self.radius + RING + (self.row_gap() // 2 if self.has_arcs() else 12)
-
-    def has_arcs(self):
-        return any(self.is_arc(v, w) for v, w in self.arrows)
-
-    def is_level(self, v, w):
-        return self.layout.row[v] == self.layout.row[w]
-
-    def are_neighbours(self, v, w):
-        between = (self.layout.x[u] for u in self.layout.x if self.is_level(u, v))
-        return not any(min(self.layout.x[v], self.layout.x[w]) < x < max(self.layout.x[v], self.layout.x[w]) for x in between)
-
-    def is_arc(self, v, w):
-        return self.is_level(v, w) and not self.are_neighbours(v, w)
-
-    def row_gap(self):
-        return 64 + min(60, self.layout.width // 12)
-
-    def height(self):
-        below = self.row_gap() // 2 if self.has_arcs() else 0
-        return self.row_height(len(self.layout.rows) - 1) + self.radius + RING + MARGIN + below
-
-    def width(self):
-        return max(LEAST_WIDTH, self.layout.width + 2 * MARGIN)
-
-    def center(self, w):
-        left = (self.width() - self.layout.width) / 2
-        return (left + self.layout.x[w], self.row_height(self.layout.row[w]))
-
-    def row_height(self, row):
-        return self.top + self.step * row
-
-    def reach(self, w):
-        """How far the circle of the world reaches."""
-        return self.radius + (RING if w == self.refuted else 0)
-
-    def passed(self, arrow):
-        left = (self.width() - self.layout.width) / 2
-        return [(left + x, self.row_height(row)) for x, row in self.layout.passed[arrow]]
+def opening(size, title, description):
+    """The first lines of a picture: its view, and what it is and what it shows in words."""
+    yield '<svg xmlns="http://www.w3.org/2000/svg" width="%d" height="%d" viewBox="0 0 %d %d" role="img">' % (size + size)
+    yield "<title>%s</title>" % escape(title)
+    yield "<desc>%s</desc>" % escape(description)
 
 
-def world_lines(picture, w):
-    x, y = picture.center(w)
-    told = " ".join(sorted(picture.facts[w])) or "no variable"
-    yield "<g><title>%s</title>" % escape("world %d: %s" % (w, told))
-    if w == picture.refuted:
-        yield '<circle cx="%s" cy="%s" r="%d"/>' % (number(x), number(y), picture.radius + RING)
-    yield '<circle cx="%s" cy="%s" r="%d"/>' % (number(x), number(y), picture.radius)
-    lines = picture.labels[w]
-    for i, line in enumerate(lines):
-        baseline = y + LINE * (i - (len(lines) - 1) / 2) + 4.5
-        yield text_line(x, baseline, "middle world" if i == 0 else "middle", line)
+def titled(title, lines):
+    yield "<g><title>%s</title>" % escape(title)
+    yield from lines
     yield "</g>"
 
 
-def cut_words(text, longest):
-    """The words of the text, those that are too long in pieces."""
+def world_lines(drawn, w):
+    """The outline of a world, doubled where it refutes, with its number and its variables."""
+    shape, label = drawn.worlds[w], drawn.labels[w]
+    yield outline(shape, "world")
+    if w == drawn.refuted:
+        yield outline(shape.wider(-RING), "world")
+    x, y = shape.middle
+    for i, line in enumerate(label):
+        baseline = y + LINE * (i - (len(label) - 1) / 2) + 4.5
+        yield text_line(x, baseline, "number middle" if i == 0 else "middle", line)
+
+
+def cut_words(text, width):
+    """The words of the text, those that are too wide in pieces."""
+    most = max(1, int(width / width_of("□")))
     for word in text.split(" "):
-        yield from (word[i : i + longest] for i in range(0, len(word), longest))
+        pieces = [word] if width_of(word) <= width else [word[i : i + most] for i in range(0, len(word), most)]
+        yield from pieces
 
 
-def caption_lines(picture, caption):
-    longest = (picture.width() - 2 * MARGIN) // LETTER
-    return [line for text in caption for line in wrapped(list(cut_words(text, longest)), longest)]
+def caption_lines(caption, width):
+    return [line for text in caption for line in wrapped(list(cut_words(text, width)), width)]
+
+
+def contents(drawn, model):
+    """Frames below arrows, and arrows below worlds."""
+    for node, shape in zip(drawn.nodes, drawn.shapes):
+        if node.is_frame:
+            yield from titled(told.cluster(node.worlds), [outline(shape, "frame")])
+    for (v, w), (points, two_headed) in sorted(drawn.arrows.items()):
+        yield from titled(told.arrow(drawn.nodes[v].worlds, drawn.nodes[w].worlds, two_headed), stroke(points, two_headed))
+    for w in sorted(drawn.worlds):
+        yield from titled(told.world(model, w), world_lines(drawn, w))
+
+
+def refuse_too_many(model, arrows):
+    """Raises TooManyArrows where there are more than can be shown."""
+    others, looped = arrows_between(groups_of(model[0]), arrows)
+    if len(others) + len(looped) > MOST_ARROWS:
+        raise TooManyArrows
 
 
 def lines(model, arrows, caption):
-    """The picture, with the lines of its caption below."""
-    if len(arrows) > MOST_ARROWS:
-        raise TooManyArrows
-    picture = Picture(model, arrows)
-    captions = caption_lines(picture, caption)
-    height = picture.height() + LINE * len(captions) + MARGIN // 2
-    size = (picture.width(), height)
-    yield '<svg xmlns="http://www.w3.org/2000/svg" width="%d" height="%d" viewBox="0 0 %d %d">' % (size + size)
+    """The picture, with the lines of its caption below. Raises TooManyArrows."""
+    refuse_too_many(model, arrows)
+    drawn = drawn_of(model, arrows)
+    left, top, right, low = drawn.bounds()
+    width = max(LEAST_WIDTH, math.ceil(right - left) + 2 * MARGIN)
+    below = math.ceil(low - top) + 2 * MARGIN
+    captions = caption_lines(caption + told.legend(drawn.nodes), width - 2 * MARGIN)
+    size = (width, below + LINE * len(captions) + MARGIN // 2)
+    yield from opening(size, caption[0] if caption else "A Kripke model", told.description(model, drawn))
     yield "<style>%s</style>" % STYLE
     yield '<rect width="100%" height="100%" fill="white"/>'
-    yield from arrow_lines(picture)
-    for w in range(len(model[0])):
-        yield from world_lines(picture, w)
+    drawn.move((width - left - right) / 2, MARGIN - top)
+    yield from contents(drawn, model)
     for i, text in enumerate(captions):
-        yield text_line(MARGIN, picture.height() + LINE * (i + 0.5), "caption", text)
+        yield text_line(MARGIN, below + LINE * (i + 0.5), "caption", text)
     yield "</svg>"
+
+
+def description_of(picture):
+    """What the lines of a picture say of it."""
+    return unescape(next(line for line in picture if line.startswith("<desc>"))[len("<desc>") : -len("</desc>")])
 
 
 def beside(pictures):
@@ -128,7 +111,7 @@ def beside(pictures):
         return
     sizes = [tuple(int(length) for length in SIZE.search(picture[0]).groups()) for picture in pictures]
     size = (sum(width for width, _ in sizes), max(height for _, height in sizes))
-    yield '<svg xmlns="http://www.w3.org/2000/svg" width="%d" height="%d" viewBox="0 0 %d %d">' % (size + size)
+    yield from opening(size, "A Kripke model, and its bisimulation quotient", " Beside it: ".join(description_of(picture) for picture in pictures))
     yield '<rect width="100%" height="100%" fill="white"/>'
     left = 0
     for picture, (width, _) in zip(pictures, sizes):

@@ -1,6 +1,7 @@
 """A proof as an indented tree, with the whole set at each step."""
 
 from certificates.calculus import component, flip, one, step_parts, two, under_nus, walk
+from certificates.formulas import printed
 from showing import reasons
 from showing.words import LOGIC_NAMES, counted, listed, signed
 
@@ -24,49 +25,49 @@ def below(place, have, additions, indent, heading):
     return Place(above + new, set(new), indent, heading)
 
 
-def step_lines(logic, parts):
+def step_lines(logic, parts, form):
     yield "goes to a world that is seen; in %s its set has" % LOGIC_NAMES[logic]
     for name, part in parts:
-        yield "  %s: %s" % (name, listed(part))
+        yield "  %s: %s" % (name, listed(part, form))
 
 
-def branching(sides):
-    return ["leaves two sets, with %s and with %s" % (listed(sides[0]), listed(sides[1]))]
+def branching(sides, form):
+    return ["leaves two sets, with %s and with %s" % (listed(sides[0], form), listed(sides[1], form))]
 
 
-def explain_close(logic, s, place):
-    return ["%s and %s can't both hold" % (signed(s), signed(flip(s)))], []
+def explain_close(logic, s, place, form):
+    return ["%s and %s can't both hold" % (signed(s, form), signed(flip(s), form))], []
 
 
-def explain_absurd(logic, s, place):
-    return ["%s can't hold" % signed(s)], []
+def explain_absurd(logic, s, place, form):
+    return ["%s can't hold" % signed(s, form)], []
 
 
-def explain_one(logic, s, place):
-    return ["leaves the set with %s" % listed(one(s))], [one(s)]
+def explain_one(logic, s, place, form):
+    return ["leaves the set with %s" % listed(one(s), form)], [one(s)]
 
 
-def explain_two(logic, s, place):
-    return branching(two(s)), list(two(s))
+def explain_two(logic, s, place, form):
+    return branching(two(s), form), list(two(s))
 
 
-def explain_refl(logic, s, place):
-    return ["each world sees itself, so leaves the set with %s" % listed([component(s)])], [[component(s)]]
+def explain_refl(logic, s, place, form):
+    return ["each world sees itself, so leaves the set with %s" % listed([component(s)], form)], [[component(s)]]
 
 
-def explain_cut(logic, s, place):
-    return branching(([s], [flip(s)])), [[s], [flip(s)]]
+def explain_cut(logic, s, place, form):
+    return branching(([s], [flip(s)]), form), [[s], [flip(s)]]
 
 
-def explain_step(logic, s, place):
+def explain_step(logic, s, place, form):
     parts = step_parts(logic, s, place.formulas)
-    return list(step_lines(logic, parts)), [[t for name, part in parts for t in part]]
+    return list(step_lines(logic, parts, form)), [[t for name, part in parts for t in part]]
 
 
-def explain_serial(logic, s, place):
+def explain_serial(logic, s, place, form):
     under = under_nus(place.formulas)
     told = ["each world sees a world, so goes to one; in %s its set has" % LOGIC_NAMES[logic]]
-    return told + ["  the components of all ν: %s" % listed(under)], [under]
+    return told + ["  the components of all ν: %s" % listed(under, form)], [under]
 
 
 EXPLAINED = {
@@ -81,33 +82,33 @@ EXPLAINED = {
 }
 
 
-def explained(logic, rule, s, place):
+def explained(logic, rule, s, place, form=printed):
     """What the step does, in lines, and what each of its premises adds. Raises KeyError where the rule has no row."""
-    return EXPLAINED[rule](logic, s, place)
+    return EXPLAINED[rule](logic, s, place, form)
 
 
-def set_lines(place, principal):
+def set_lines(place, principal, form):
     for s in place.formulas:
-        yield "%s%s %s" % (">" if s == principal else " ", "+" if s in place.new else " ", signed(s))
+        yield "%s%s %s" % (">" if s == principal else " ", "+" if s in place.new else " ", signed(s, form))
 
 
-def premise_places(place, left, additions):
+def premise_places(place, left, additions, form):
     """The places of the premises; where there are two, each stands under a heading and farther in."""
     if len(left) == 1:
         return [below(place, left[0], additions[0], place.indent, None)]
     indent = place.indent + "  "
-    return [below(place, have, added, indent, "with %s:" % listed(added)) for have, added in zip(left, additions)]
+    return [below(place, have, added, indent, "with %s:" % listed(added, form)) for have, added in zip(left, additions)]
 
 
-def broken(logic, goal, have, rule, s, behind):
-    why = reasons.of_step(logic, goal, have, rule, s)
+def broken(logic, goal, have, rule, s, behind, form):
+    why = reasons.of_step(logic, goal, have, rule, s, form)
     yield "breaks its rule: %s" % why
     if behind:
         yield "(%s behind it %s not shown)" % (counted(behind, "step"), "is" if behind == 1 else "are")
 
 
-def lines(logic, goal, steps):
-    """The tree, up to the first step that breaks its rule."""
+def lines(logic, goal, steps, form=printed):
+    """The tree, up to the first step that breaks its rule, with the formulas as `form` writes them."""
     yield LEGEND
     waiting = [Place([("F", goal)], set(), "", None)]
     for number, rule, s, have, left in walk(logic, goal, steps):
@@ -115,12 +116,12 @@ def lines(logic, goal, steps):
         if place.heading:
             yield place.indent[:-2] + place.heading
         yield "%s%d. %s" % (place.indent, number, rule)
-        for line in set_lines(place, s):
+        for line in set_lines(place, s, form):
             yield "%s     %s" % (place.indent, line)
         if left is None:
-            told = broken(logic, goal, have, rule, s, len(steps) - number)
+            told = broken(logic, goal, have, rule, s, len(steps) - number, form)
         else:
-            told, additions = explained(logic, rule, s, place)
-            waiting += reversed(premise_places(place, left, additions))
+            told, additions = explained(logic, rule, s, place, form)
+            waiting += reversed(premise_places(place, left, additions, form))
         for line in told:
             yield "%s   %s" % (place.indent, line)

@@ -1,5 +1,5 @@
-"""The smallest model that is equal to a model at each of its worlds: one world for each class of worlds that no formula
-tells apart (Blackburn, de Rijke and Venema, Modal Logic, section 2.2)."""
+"""The bisimulation quotient of a model: one world for each class of worlds that no formula tells apart (Blackburn, de Rijke
+and Venema, Modal Logic, section 2.2). It is the smallest model that is equal to it at each of its worlds."""
 
 
 def numbered(keys):
@@ -19,7 +19,7 @@ def classes_of(sees, facts):
 
 
 def smallest(model):
-    """The smallest equal model, with the place of the refuting world, and the places of all worlds."""
+    """The bisimulation quotient, with the place of the refuting world, and the places of all worlds."""
     sees, facts, refuted = model
     places = classes_of(sees, facts)
     rows = [set() for _ in range(max(places) + 1)]

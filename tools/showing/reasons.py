@@ -1,7 +1,7 @@
 """Why a step breaks its rule, and why a model doesn't refute its formula."""
 
 from certificates.calculus import RULES, flip, is_nu, is_pi, one, two
-from certificates.formulas import subformulas
+from certificates.formulas import printed, subformulas
 from certificates.models import true_worlds
 from showing.words import LOGIC_NAMES, signed
 
@@ -23,18 +23,18 @@ SHAPES = {
 }
 
 
-def of_step(logic, goal, have, rule, s):
+def of_step(logic, goal, have, rule, s, form=printed):
     """Why the step breaks its rule: the logic, then the principal's shape, then what the set lacks, then the goal."""
     if logic not in RULES[rule][0]:
         return "the rule %s isn't one of %s" % (rule, LOGIC_NAMES[logic])
     fits, shape = SHAPES[rule]
     if not fits(s):
-        return "the principal of %s is %s, and %s isn't" % (rule, shape, signed(s))
+        return "the principal of %s is %s, and %s isn't" % (rule, shape, signed(s, form))
     if rule == "cut":
-        return "%s is no subformula of the goal" % signed(s)[2:] if s[1] not in subformulas(goal) else None
+        return "%s is no subformula of the goal" % form(s[1]) if s[1] not in subformulas(goal) else None
     for wanted in [s, flip(s)] if rule == "close" else [s]:
         if wanted not in have:
-            return "%s isn't in the set" % signed(wanted)
+            return "%s isn't in the set" % signed(wanted, form)
     return None
 
 

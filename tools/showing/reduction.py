@@ -1,17 +1,40 @@
 """The arrows of a model that are drawn: all, or without those that follow from the logic's class."""
 
+from certificates import models
 from showing import reasons
 
 LEFT_OUT = {
     "k": None,
-    "kt": "that each world sees itself",
-    "k4": "that each world sees all that is seen from what it sees",
+    "kt": "reflexive arrows: each world sees itself",
+    "k4": "transitive arrows: each world sees all that is seen from what it sees",
     "kd": None,
-    "s4": "that each world sees itself and all that is seen from what it sees",
-    "s5": "that each world sees itself, sees back, and sees all that is seen from what it sees",
-    "gl": "that each world sees all that is seen from what it sees",
-    "grz": "that each world sees itself and all that is seen from what it sees",
+    "s4": "reflexive and transitive arrows: each world sees itself and all that is seen from what it sees",
+    "s5": "reflexive, symmetric and transitive arrows: each world sees itself, is seen from what it sees, and sees all that is seen from there",
+    "gl": "transitive arrows: each world sees all that is seen from what it sees",
+    "grz": "reflexive and transitive arrows: each world sees itself and all that is seen from what it sees",
 }
+PROPERTIES = {
+    "serial": models.is_serial,
+    "reflexive": models.is_reflexive,
+    "irreflexive": models.is_irreflexive,
+    "symmetric": models.is_symmetric,
+    "antisymmetric": models.is_antisymmetric,
+    "transitive": models.is_transitive,
+}
+# the logics whose reduced arrows a model without a logic may have, where its relation is one of theirs
+FROM_MOST = ("s5", "s4", "kt", "k4", "k")
+
+
+def properties(sees):
+    """The names of the relation's properties; a reflexive relation is serial anyhow."""
+    sets = [set(row) for row in sees]
+    found = [name for name, holds in PROPERTIES.items() if holds(sets)]
+    return [name for name in found if name != "serial" or "reflexive" not in found]
+
+
+def logic_of(sees):
+    """The logic by whose class arrows are left out where a model names none: the one whose arrows are fewest."""
+    return next(logic for logic in FROM_MOST if models.in_class(logic, sees))
 
 
 def without_loops(sees):

@@ -5,13 +5,14 @@ from certificates.formulas import printed
 LOGIC_NAMES = {"k": "K", "kt": "KT", "k4": "K4", "kd": "KD", "s4": "S4", "s5": "S5", "gl": "GL", "grz": "Grz"}
 
 
-def signed(s):
-    return s[0] + " " + printed(s[1])
+def signed(s, form=printed):
+    """The sign, and the formula as `form` writes it."""
+    return s[0] + " " + form(s[1])
 
 
-def listed(parts):
+def listed(parts, form=printed):
     """Signed formulas, joined by commas."""
-    return ", ".join(signed(s) for s in parts) if parts else "nothing"
+    return ", ".join(signed(s, form) for s in parts) if parts else "nothing"
 
 
 def counted(number, word):

@@ -1,0 +1,1 @@
+"""Makes a package of the built program: what is in it, its manual pages from the documents, and its archives."""
