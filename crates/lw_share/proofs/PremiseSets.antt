@@ -41,8 +41,3 @@ module _ (L : Logic) (now ts : List Formula) (grown : Grows now ts) (x : SignedI
       (ys : List SignedId) → set_of ts ys ≡ plus trees (added trees L (signed_at ts x) (signed_at ts c)) (kept trees L (set_of ts xs)) →
       set_of ts ys ∷ [] ≡ premises trees L Rule.Step (signed_at ts x) (parts_of (signed_at ts x)) (set_of ts xs)
   step_premise c below e ys h = ap (λ X. X ∷ []) h ∙ placed Rule.Step (Pi c) below e
-
-  pub serial_premise : (c : SignedId) → ArePartsBelow (length now) (Nu c) → parts_at now (Nu c) ≡ parts_of (signed_at now x) →
-      (ys : List SignedId) → set_of ts ys ≡ kept trees L (set_of ts xs) →
-      set_of ts ys ∷ [] ≡ premises trees L Rule.Serial (signed_at ts x) (parts_of (signed_at ts x)) (set_of ts xs)
-  serial_premise c below e ys h = ap (λ X. X ∷ []) h ∙ placed Rule.Serial (Nu c) below e
